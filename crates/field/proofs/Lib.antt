@@ -1,0 +1,6 @@
+pub mod Congruence
+pub mod Powers
+pub mod Table
+pub mod Ring
+pub mod Fermat
+pub mod Roots

@@ -4,3 +4,5 @@ pub mod Table
 pub mod Ring
 pub mod Fermat
 pub mod Roots
+pub mod First
+pub mod Values

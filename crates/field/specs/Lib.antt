@@ -1,3 +1,11 @@
 pub mod Field
+pub mod Symbol
 pub mod Congruence
 pub mod Roots
+pub mod Refusals
+pub mod First
+pub mod Values
+pub mod Operations
+pub mod Size
+pub mod Shape
+pub mod Points

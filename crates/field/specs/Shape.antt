@@ -1,0 +1,11 @@
+-- SHAPE of a block: k = 0, k > n, n > 4096.
+use mathlib.Core.Bool.{Bool, _||_}
+use Prim.Native.Nat.{ℕ}
+use lib.Dec.{ltb, eqb}
+
+-- the longest code word
+unfoldable pub longest : ℕ
+longest = 4096
+
+unfoldable pub badShape : ℕ → ℕ → Bool
+badShape k n = eqb k 0 || ltb n k || ltb longest n

@@ -1,0 +1,28 @@
+// A position is a place in the code word, a point a number of the field; inner::point alone leads from one to the other.
+use crate::inner;
+use crate::refusal::Refusal;
+ghost use mathlib.Core.Path.{_≡_};
+ghost use Rattle.field.specs.Points.{toldPoint, pointAnswer};
+
+pub struct Position(pub usize);
+
+pub struct Point(pub u32);
+
+pub enum PointAnswer {
+    Is(Point),
+    Refused(Refusal),
+}
+
+// The point that position i of a code word of length n stands for.
+pub fn point_at(n: usize, i: usize) -> PointAnswer
+    ensures { λ r. ⌜ toldPoint r ≡ pointAnswer n i ⌝ }
+{
+    if inner::bad_shape(1, n) {
+        return PointAnswer::Refused(Refusal::Shape);
+    }
+    let size = inner::size(n);
+    if n <= i {
+        return PointAnswer::Refused(Refusal::Position(0));
+    }
+    PointAnswer::Is(inner::point(Position(i), size))
+}

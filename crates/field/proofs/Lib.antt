@@ -6,3 +6,6 @@ pub mod Fermat
 pub mod Roots
 pub mod First
 pub mod Values
+pub mod Size
+pub mod Refusals
+pub mod Theorems

@@ -9,3 +9,4 @@ pub mod Operations
 pub mod Size
 pub mod Shape
 pub mod Points
+pub mod Theorems

@@ -1,0 +1,58 @@
+-- Number and place tell the refusal, so an answer told in document 01's numbers is one answer of the enum.
+-- Assumes nothing.
+use mathlib.Core.Path.{_≡_, refl, sym, ap, _∙_}
+use mathlib.Core.List.{List, [], _∷_}
+use Prim.Native.Nat.{ℕ, pred}
+use native.Mathlib.Omega.{arith}
+use lib.ListN.{getD}
+use Rattle.field.specs.Operations.{told}
+use Rattle.field.specs.Points.{toldPoint}
+use Rattle.field.specs.Refusals.{Told, result, refusal, refused, numberOf, placeOf}
+use Rattle.field.specs.declared.operations.SymbolAnswer.{SymbolAnswer}
+use Rattle.field.specs.declared.operations.SymbolAnswer.the-variants.{Symbol, Refused}
+use Rattle.field.specs.declared.points.PointAnswer.{PointAnswer}
+use Rattle.field.specs.declared.points.PointAnswer.the-variants as P
+use Rattle.field.specs.declared.refusal.Refusal.{Refusal}
+use Rattle.field.specs.declared.refusal.Refusal.the-variants.{Shape, Length, Room, Few, Position, Repeat, Value, Disagree, Word, Tail, Form}
+
+-- the refusal of a number and a place
+named : ℕ → ℕ → Refusal
+named n i = getD (Shape ∷ Length ∷ Room ∷ Few ∷ Position i ∷ Repeat i ∷ Value i ∷ Disagree i ∷ Word i ∷ Tail i ∷ []) (pred n) Form
+
+named-told : (x : Refusal) → named (numberOf x) (placeOf x) ≡ x
+unfolding named
+named-told Shape = refl
+named-told Length = refl
+named-told Room = refl
+named-told Few = refl
+named-told (Position i) = refl
+named-told (Repeat i) = refl
+named-told (Value i) = refl
+named-told (Disagree b) = refl
+named-told (Word b) = refl
+named-told (Tail b) = refl
+named-told Form = refl
+
+-- the refusal that an answer tells; Form where it tells a result
+unfold-told : Told → Refusal
+unfold-told (result vs) = Form
+unfold-told (refusal n i) = named n i
+
+pub refusals-told : (x y : Refusal) → refused x ≡ refused y → x ≡ y
+unfolding unfold-told
+refusals-told x y e = sym (named-told x) ∙ ap unfold-told e ∙ named-told y
+
+pub result-no-refusal : {vs : List ℕ} {n i : ℕ} → result vs ≡ refusal n i → ⊥
+result-no-refusal e = let z : _≡_ {A = ℕ} 0 1 = cc in omega arith
+
+pub told-one : (r s : SymbolAnswer) → told r ≡ told s → r ≡ s
+told-one (Symbol u) (Symbol v) e = cc
+told-one (Symbol u) (Refused y) e = absurd (result-no-refusal e)
+told-one (Refused x) (Symbol v) e = absurd (result-no-refusal (sym e))
+told-one (Refused x) (Refused y) e = ap Refused (refusals-told x y e)
+
+pub told-point-one : (r s : PointAnswer) → toldPoint r ≡ toldPoint s → r ≡ s
+told-point-one (P.Is u) (P.Is v) e = let same : u .0 ≡ v .0 = cc in ap (λ (w : ℕ). P.Is (record { 0 = w })) same
+told-point-one (P.Is u) (P.Refused y) e = absurd (result-no-refusal e)
+told-point-one (P.Refused x) (P.Is v) e = absurd (result-no-refusal (sym e))
+told-point-one (P.Refused x) (P.Refused y) e = ap P.Refused (refusals-told x y e)

@@ -1,0 +1,92 @@
+-- What is proved of the definitions, as statements: proofs/Theorems.antt proves each under the same name in small letters.
+use mathlib.Core.Path.{_≡_}
+use mathlib.Core.Logic.{_⊎_}
+use Prim.Native.Nat.{ℕ, suc, _+_, _-_, _^_, _<_, _≤_}
+use Rattle.field.specs.Field.{sum, difference, product, power, inverse}
+use Rattle.field.specs.Operations.{told, sumAnswer, differenceAnswer, productAnswer, powerAnswer, inverseAnswer}
+use Rattle.field.specs.Points.{pointOf, toldPoint, pointAnswer}
+use Rattle.field.specs.Refusals.{Told, refused}
+use Rattle.field.specs.Roots.{root, HasOrder}
+use Rattle.field.specs.Size.{sizeOf}
+use Rattle.field.specs.declared.operations.SymbolAnswer.{SymbolAnswer}
+use Rattle.field.specs.declared.points.PointAnswer.{PointAnswer}
+use Rattle.field.specs.declared.refusal.Refusal.{Refusal}
+
+-- The field is a commutative ring
+
+pub record CommutativeRing : Type 0 where
+  pub sum-commutes : (a b : ℕ) → sum a b ≡ sum b a
+  pub sum-associates : (a b c : ℕ) → sum (sum a b) c ≡ sum a (sum b c)
+  pub sum-zero : (a : ℕ) → a < 65537 → sum a 0 ≡ a
+  pub difference-undoes-sum : (a b : ℕ) → a < 65537 → difference (sum a b) b ≡ a
+  pub sum-undoes-difference : (a b : ℕ) → a < 65537 → sum (difference a b) b ≡ a
+  pub product-commutes : (a b : ℕ) → product a b ≡ product b a
+  pub product-associates : (a b c : ℕ) → product (product a b) c ≡ product a (product b c)
+  pub product-one : (a : ℕ) → a < 65537 → product a 1 ≡ a
+  pub product-distributes : (a b c : ℕ) → product a (sum b c) ≡ sum (product a b) (product a c)
+
+-- every symbol but 0 has an inverse
+abbrev pub Inverses : Type 0
+Inverses = (x : ℕ) → 0 < x → x < 65537 → product x (inverse x) ≡ 1
+
+abbrev pub NoZeroDivisors : Type 0
+NoZeroDivisors = (a b : ℕ) → a < 65537 → b < 65537 → product a b ≡ 0 → (a ≡ 0) ⊎ (b ≡ 0)
+
+-- The table of roots
+
+-- each root is the square of the next one
+abbrev pub RootSquares : Type 0
+RootSquares = (i : ℕ) → i < 16 → product (root (suc i)) (root (suc i)) ≡ root i
+
+-- the root of order 2 ^ i is 3 to the power 2 ^ (16 - i)
+abbrev pub RootPowers : Type 0
+RootPowers = (i : ℕ) → i ≤ 16 → root i ≡ power 3 (2 ^ (16 - i))
+
+abbrev pub RootOrders : Type 0
+RootOrders = (i : ℕ) → i ≤ 16 → HasOrder (root i) (2 ^ i)
+
+-- half way round stands minus one
+abbrev pub RootHalves : Type 0
+RootHalves = (i : ℕ) → 0 < i → i ≤ 16 → power (root i) (2 ^ (i - 1)) ≡ 65536
+
+abbrev pub RootPowersDistinct : Type 0
+RootPowersDistinct = (i : ℕ) → i ≤ 16 → (a b : ℕ) → a < 2 ^ i → b < 2 ^ i → power (root i) a ≡ power (root i) b → a ≡ b
+
+-- Positions and points
+
+-- N is the smallest power of two that is at least n
+abbrev pub SizeSmallest : Type 0
+SizeSmallest = (n : ℕ) → n ≤ 65536 → (n ≤ sizeOf n) × ((e : ℕ) → n ≤ 2 ^ e → sizeOf n ≤ 2 ^ e)
+
+-- the N points of a code word are distinct
+abbrev pub PointsDistinct : Type 0
+PointsDistinct =
+    (n i j : ℕ) → i < sizeOf n → j < sizeOf n → pointOf (sizeOf n) i ≡ pointOf (sizeOf n) j → i ≡ j
+
+-- Each promise settles the answer: two outcomes that meet it are equal
+
+-- number and place tell the refusal
+abbrev pub RefusalsTold : Type 0
+RefusalsTold = (x y : Refusal) → refused x ≡ refused y → x ≡ y
+
+-- two answers that tell the same are equal
+abbrev pub Settled : Told → Type 0
+Settled t = (r s : SymbolAnswer) → told r ≡ t → told s ≡ t → r ≡ s
+
+abbrev pub SumSettled : Type 0
+SumSettled = (a b : ℕ) → Settled (sumAnswer a b)
+
+abbrev pub DifferenceSettled : Type 0
+DifferenceSettled = (a b : ℕ) → Settled (differenceAnswer a b)
+
+abbrev pub ProductSettled : Type 0
+ProductSettled = (a b : ℕ) → Settled (productAnswer a b)
+
+abbrev pub PowerSettled : Type 0
+PowerSettled = (x n : ℕ) → Settled (powerAnswer x n)
+
+abbrev pub InverseSettled : Type 0
+InverseSettled = (x : ℕ) → Settled (inverseAnswer x)
+
+abbrev pub PointSettled : Type 0
+PointSettled = (n i : ℕ) (r s : PointAnswer) → toldPoint r ≡ pointAnswer n i → toldPoint s ≡ pointAnswer n i → r ≡ s

@@ -1,7 +1,8 @@
 -- What each field operation that callers can reach answers: its operands are counted as a list from 0.
+use mathlib.Core.Bool.{_||_}
 use mathlib.Core.List.{List, [], _∷_}
 use Prim.Native.Nat.{ℕ}
-use lib.Dec.{eqb}
+use lib.Dec.{ltb, eqb}
 use Rattle.field.specs.Field.{sum, difference, product, power, inverse}
 use Rattle.field.specs.Refusals.{Told, result, refused, refuseIf}
 use Rattle.field.specs.Values.{refuseAbove}
@@ -25,6 +26,6 @@ productAnswer a b = refuseAbove (a ∷ b ∷ []) (result (product a b ∷ []))
 abbrev pub powerAnswer : ℕ → ℕ → Told
 powerAnswer x n = refuseAbove (x ∷ n ∷ []) (result (power x n ∷ []))
 
--- "or 0 given to the field inverse"
+-- VALUE: "some value above 65536, or 0 given to the field inverse"
 abbrev pub inverseAnswer : ℕ → Told
-inverseAnswer x = refuseAbove (x ∷ []) (refuseIf (eqb x 0) (Value 0) (result (inverse x ∷ [])))
+inverseAnswer x = refuseIf (ltb 65536 x || eqb x 0) (Value 0) (result (inverse x ∷ []))

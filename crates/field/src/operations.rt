@@ -64,11 +64,10 @@ pub fn power(x: u32, n: u32) -> SymbolAnswer
 pub fn inverse(x: u32) -> SymbolAnswer
     ensures { λ r. ⌜ told r ≡ inverseAnswer x ⌝ }
 {
-    if 65536 < x {
-        return SymbolAnswer::Refused(Refusal::Value(0));
+    if 0 < x {
+        if x < 65537 {
+            return SymbolAnswer::Symbol(inner::inverse(x));
+        }
     }
-    if x == 0 {
-        return SymbolAnswer::Refused(Refusal::Value(0));
-    }
-    SymbolAnswer::Symbol(inner::inverse(x))
+    SymbolAnswer::Refused(Refusal::Value(0))
 }

@@ -12,7 +12,7 @@ use Rattle.field.specs.Points.{rootOf, pointOf}
 use Rattle.field.specs.Roots.{root}
 use Rattle.field.specs.Size.{levelOf, sizeOf}
 use Rattle.field.specs.Refusals.{Told}
-use Rattle.field.specs.Theorems.{CommutativeRing, Inverses, NoZeroDivisors, RootSquares, RootPowers, RootOrders, RootHalves, RootPowersDistinct, SizeSmallest, PointsDistinct, RefusalsTold, Settled, SumSettled, DifferenceSettled, ProductSettled, PowerSettled, InverseSettled, PointSettled}
+use Rattle.field.specs.Theorems.{CommutativeRing, Inverses, NoZeroDivisors, RootSquares, RootPowers, RootOrders, RootHalves, RootPowersDistinct, SizeSmallest, PointsDistinct, RefusalsTold, NumberSettled, PlaceSettled, Settled, SumSettled, DifferenceSettled, ProductSettled, PowerSettled, InverseSettled, PointSettled}
 use Rattle.field.proofs.Congruence.{reduced}
 use Rattle.field.proofs.Fermat.{inverse-≈, no-divisors}
 use Rattle.field.proofs.Refusals as R
@@ -79,6 +79,12 @@ points-distinct n i j li lj e = root-powers-distinct (levelOf n) (level-le n) i 
 
 pub refusals-told : RefusalsTold
 refusals-told = R.refusals-told
+
+pub number-settled : NumberSettled
+number-settled x r s p q = p ∙ sym q
+
+pub place-settled : PlaceSettled
+place-settled x r s p q = p ∙ sym q
 
 settled : (t : Told) → Settled t
 settled t r s p q = R.told-one r s (p ∙ sym q)

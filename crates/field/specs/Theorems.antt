@@ -5,7 +5,7 @@ use Prim.Native.Nat.{ℕ, suc, _+_, _-_, _^_, _<_, _≤_}
 use Rattle.field.specs.Field.{sum, difference, product, power, inverse}
 use Rattle.field.specs.Operations.{told, sumAnswer, differenceAnswer, productAnswer, powerAnswer, inverseAnswer}
 use Rattle.field.specs.Points.{pointOf, toldPoint, pointAnswer}
-use Rattle.field.specs.Refusals.{Told, refused}
+use Rattle.field.specs.Refusals.{Told, refused, numberOf, placeOf}
 use Rattle.field.specs.Roots.{root, HasOrder}
 use Rattle.field.specs.Size.{sizeOf}
 use Rattle.field.specs.declared.operations.SymbolAnswer.{SymbolAnswer}
@@ -68,6 +68,12 @@ PointsDistinct =
 -- number and place tell the refusal
 abbrev pub RefusalsTold : Type 0
 RefusalsTold = (x y : Refusal) → refused x ≡ refused y → x ≡ y
+
+abbrev pub NumberSettled : Type 0
+NumberSettled = (x : Refusal) (r s : ℕ) → r ≡ numberOf x → s ≡ numberOf x → r ≡ s
+
+abbrev pub PlaceSettled : Type 0
+PlaceSettled = (x : Refusal) (r s : ℕ) → r ≡ placeOf x → s ≡ placeOf x → r ≡ s
 
 -- two answers that tell the same are equal
 abbrev pub Settled : Told → Type 0

@@ -13,16 +13,17 @@ pub enum PointAnswer {
     Refused(Refusal),
 }
 
-// The point that position i of a code word of length n stands for.
-pub fn point_at(n: usize, i: usize) -> PointAnswer
-    ensures { λ r. ⌜ toldPoint r ≡ pointAnswer n i ⌝ }
+// The point that a position of a code word of length n stands for.
+pub fn point_at(n: usize, position: Position) -> PointAnswer
+    ensures { λ r. ⌜ toldPoint r ≡ pointAnswer n (position .0) ⌝ }
 {
     if inner::bad_shape(1, n) {
         return PointAnswer::Refused(Refusal::Shape);
     }
     let size = inner::size(n);
+    let i = position.0;
     if n <= i {
         return PointAnswer::Refused(Refusal::Position(0));
     }
-    PointAnswer::Is(inner::point(Position(i), size))
+    PointAnswer::Is(inner::point(position, size))
 }

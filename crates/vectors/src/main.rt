@@ -1,6 +1,7 @@
 // Runs document 01's worked cases and limits, one to a line; what it must write was worked out apart from it, by tests/vectors.py.
 mod show;
 
+use field::Position;
 use field::inner;
 
 fn main() {
@@ -85,5 +86,5 @@ fn inverse(x: u32) {
 }
 
 fn point(n: usize, i: usize) {
-    show::point(n, i, field::point_at(n, i));
+    show::point(n, i, field::point_at(n, Position(i)));
 }

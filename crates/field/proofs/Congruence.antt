@@ -2,7 +2,7 @@
 -- Assumes nothing.
 use mathlib.Core.Path.{_≡_, refl, sym, ap, _∙_}
 use Prim.Native.Nat.{ℕ, zero, suc, _+_, _*_, _^_, _/_, _%_, _<_}
-use native.Mathlib.Nat.{add-mul-mod-self-left, mod-eq-of-lt, mod-mod, pow-suc, pow-zero}
+use native.Mathlib.Nat.{mod-eq-of-lt, mod-mod, pow-suc, pow-zero}
 use native.Mathlib.Omega.{arith}
 use Rattle.field.specs.Congruence.{_≈_}
 

@@ -3,16 +3,16 @@
 -- 65537 = q · a + r with q at most 256, so q · a is minus r, and a's power follows from q's and r's.
 -- Assumes nothing.
 use mathlib.Core.Path.{_≡_, refl, sym, ap, _∙_}
-use mathlib.Core.Bool.{Bool, true, false}
-use mathlib.Core.Logic.{_⊎_, inl, inr}
-use Prim.Native.Nat.{ℕ, zero, suc, _+_, _*_, _^_, _/_, _%_, _<_, _≤_}
+use mathlib.Core.Bool.{Bool}
+use mathlib.Core.Logic.{inl, inr}
+use Prim.Native.Nat.{ℕ, zero, suc, _+_, _*_, _^_, _/_, _%_, _<_}
 use native.Mathlib.Decide.{decLe}
-use native.Mathlib.Nat.{not-suc-le-zero, pow-suc, pow-zero, two-pow-succ, div-add-mod', mod-lt, div-lt-iff-lt-mul, eq-zero-or-pos, zero-mul, mul-le-mul-left, pos-of-ne-zero}
+use native.Mathlib.Nat.{not-suc-le-zero, pow-suc, two-pow-succ, div-add-mod', mod-lt, eq-zero-or-pos, zero-mul, mul-le-mul-left, pos-of-ne-zero}
 use native.Mathlib.Omega.{arith}
-use lib.Dec.{T, eqb, eqb→eq, lit<}
+use lib.Dec.{eqb, eqb→eq, lit<}
 use Rattle.field.specs.Congruence.{_≈_}
-use Rattle.field.specs.Field.{product, power, inverse}
-use Rattle.field.proofs.Congruence.{≈-refl, ≈-of, ≈-sym, _∘≈_, _+≈_, _·≈_, mul-≈, pow-≈, mod-≈, comb, wrap, reduced}
+use Rattle.field.specs.Field.{power, inverse}
+use Rattle.field.proofs.Congruence.{≈-of, ≈-sym, _∘≈_, _+≈_, _·≈_, mul-≈, pow-≈, mod-≈, comb, wrap, reduced}
 use Rattle.field.proofs.Table.{at}
 use Rattle.field.proofs.Powers.{mul-pow, pow-one, pow-two, minus-one}
 

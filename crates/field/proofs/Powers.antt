@@ -1,6 +1,6 @@
 -- Powers: the laws over ℕ that the library lacks, and the even powers of minus one modulo 65537.
 -- Assumes nothing.
-use mathlib.Core.Path.{_≡_, refl, sym, ap, _∙_}
+use mathlib.Core.Path.{_≡_, ap, _∙_}
 use Prim.Native.Nat.{ℕ, zero, suc, _+_, _*_, _^_}
 use native.Mathlib.Nat.{pow-suc, pow-zero, mul-suc, mul-zero}
 use native.Mathlib.Omega.{arith}

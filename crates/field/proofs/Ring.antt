@@ -1,14 +1,14 @@
 -- The field is a commutative ring, and powers multiply as powers do. Products go by congruence, sums and differences by omega.
 -- Assumes nothing.
-use mathlib.Core.Path.{_≡_, refl, sym, ap, _∙_}
-use Prim.Native.Nat.{ℕ, zero, suc, _+_, _*_, _^_, _/_, _%_, _<_}
-use native.Mathlib.Nat.{mod-lt, pow-suc, pow-zero, zero-lt-suc}
+use mathlib.Core.Path.{_≡_, ap}
+use Prim.Native.Nat.{ℕ, suc, _+_, _*_, _^_, _%_, _<_}
+use native.Mathlib.Nat.{pow-suc, pow-zero}
 use native.Mathlib.Omega.{arith}
 use lib.Pow.{pow-add}
 use Rattle.field.specs.Congruence.{_≈_}
 use Rattle.field.specs.Field.{sum, difference, product, power, inverse}
 use Rattle.field.proofs.Powers.{pow-times, mul-pow}
-use Rattle.field.proofs.Congruence.{≈-refl, ≈-of, ≈-sym, _∘≈_, _+≈_, _·≈_, mul-≈, pow-≈, mod-≈, comb}
+use Rattle.field.proofs.Congruence.{≈-refl, ≈-of, ≈-sym, _∘≈_, _+≈_, _·≈_, mul-≈, pow-≈, mod-≈}
 
 -- Each operation is below 65537, and congruent to the plain one
 

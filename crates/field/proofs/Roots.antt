@@ -2,17 +2,17 @@
 -- Assumes nothing.
 use mathlib.Core.Path.{_≡_, refl, sym, ap, _∙_, subst}
 use mathlib.Core.Bool.{Bool}
-use mathlib.Core.Logic.{_⊎_, inl, inr}
+use mathlib.Core.Logic.{inl, inr}
 use Prim.Native.Nat.{ℕ, zero, suc, _+_, _-_, _*_, _^_, _/_, _%_, _<_, _≤_}
 use native.Mathlib.Decide.{decLe}
-use native.Mathlib.Nat.{not-suc-le-zero, zero-add, zero-mul, suc-mul, mul-comm, mod-eq-of-lt, pow-suc, pow-succ', two-pow-succ, eq-zero-or-pos}
+use native.Mathlib.Nat.{zero-add, zero-mul, suc-mul, mul-comm, mod-eq-of-lt, pow-suc, pow-succ', eq-zero-or-pos}
 use native.Mathlib.Omega.{arith}
-use lib.Dec.{T, eqb, eqb→eq, ltb, ltb→lt}
+use lib.Dec.{eqb, eqb→eq, ltb, ltb→lt}
 use lib.Pow.{pow-add}
 use Rattle.field.specs.Congruence.{_≈_}
 use Rattle.field.specs.Field.{product, power}
 use Rattle.field.specs.Roots.{roots, root, HasOrder}
-use Rattle.field.proofs.Congruence.{≈-refl, ≈-of, ≈-sym, _∘≈_, _+≈_, _·≈_, mul-≈, pow-≈, mod-≈, comb, wrap, reduced}
+use Rattle.field.proofs.Congruence.{≈-refl, ≈-of, ≈-sym, _∘≈_, _+≈_, _·≈_, mul-≈, pow-≈, mod-≈, comb, wrap}
 use Rattle.field.proofs.Powers.{one-pow, pow-one, pow-two, pow-times, minus-one}
 use Rattle.field.proofs.Table.{at}
 

@@ -1,8 +1,8 @@
 -- N is at least n, no smaller power of two is, and the exponent of a power of two is its own: what callers use of N instead of its definition.
 -- Assumes nothing.
 use mathlib.Core.Path.{_≡_, refl, sym, ap}
-use mathlib.Core.Logic.{_⊎_, inl, inr}
-use Prim.Native.Nat.{ℕ, _^_, _<_, _≤_}
+use mathlib.Core.Logic.{inl, inr}
+use Prim.Native.Nat.{ℕ, _^_, _≤_}
 use native.Mathlib.Decide.{decLe}
 use native.Mathlib.Nat.{eq-or-lt-of-le, le-antisymm, le-trans, not-le-of-lt, lt-of-not-le, le-of-eq}
 use borrow.Author.Tests.{leb-true, leb-false}

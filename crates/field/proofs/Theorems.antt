@@ -1,8 +1,8 @@
 -- The proofs of specs/Theorems.antt, each under its name there in small letters.
 -- Assumes nothing.
 use mathlib.Core.Path.{_≡_, sym, ap, _∙_}
-use mathlib.Core.Logic.{_⊎_, inl, inr}
-use Prim.Native.Nat.{ℕ, zero, suc, _-_, _^_, _<_, _≤_, suc-le-suc}
+use mathlib.Core.Logic.{inl, inr}
+use Prim.Native.Nat.{ℕ, zero, suc, _-_, _^_, _<_, suc-le-suc}
 use native.Mathlib.Nat.{eq-zero-or-pos, not-suc-le-zero, ne-of-gt}
 use native.Mathlib.Omega.{arith}
 use lib.Dec.{lit<}

@@ -1,6 +1,6 @@
 -- What each field operation that callers can reach answers: its operands are counted as a list from 0.
 use mathlib.Core.Bool.{_||_}
-use mathlib.Core.List.{List, [], _∷_}
+use mathlib.Core.List.{[], _∷_}
 use Prim.Native.Nat.{ℕ}
 use lib.Dec.{ltb, eqb}
 use Rattle.field.specs.Field.{sum, difference, product, power, inverse}

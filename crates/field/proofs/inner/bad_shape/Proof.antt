@@ -1,6 +1,5 @@
 -- `field::inner::bad_shape` meets its contract: the tests are SHAPE's, in its order.
 -- Assumes nothing.
-use borrow.Author.Needs.{needs}
 use borrow.Author.Tests.{eq-eqb, ne-eqb, lt-ltb, le-ltb}
 use Rattle.field.specs.Shape.{longest, badShape}
 use Rattle.field.proofs.inner.bad_shape.Statement.{statement}

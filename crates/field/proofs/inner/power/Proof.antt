@@ -10,7 +10,7 @@ use lib.Pow.{pow-add}
 use borrow.Author.Needs.{needs}
 use Rattle.field.specs.Congruence.{_≈_}
 use Rattle.field.specs.Field.{product, power}
-use Rattle.field.proofs.Congruence.{≈-refl, ≈-of, ≈-sym, _∘≈_, _+≈_, _·≈_, mul-≈, pow-≈, mod-≈, comb, reduced}
+use Rattle.field.proofs.Congruence.{≈-of, ≈-sym, _∘≈_, _·≈_, mul-≈, pow-≈, reduced}
 use Rattle.field.proofs.Powers.{pow-two, pow-one}
 use Rattle.field.proofs.Ring.{product-≈, power-≈, power-lt}
 use Rattle.field.proofs.inner.power.Statement.{statement}

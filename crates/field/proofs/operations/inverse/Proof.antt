@@ -1,12 +1,12 @@
 -- `field::inverse` meets its contract: 0 and what is above 65536 are refused at index 0.
 -- Assumes nothing.
-use mathlib.Core.Path.{_≡_, ap}
+use mathlib.Core.Path.{ap}
 use mathlib.Core.List.{[], _∷_}
 use Prim.Native.Nat.{ℕ}
 use native.Mathlib.Omega.{arith}
 use borrow.Author.Needs.{needs}
 use borrow.Author.Tests.{lt-ltb, le-ltb, eq-eqb, ne-eqb}
-use Rattle.field.specs.Refusals.{Told, result}
+use Rattle.field.specs.Refusals.{result}
 use Rattle.field.proofs.operations.inverse.Statement.{statement}
 use Rattle.field.proofs.operations.inverse.Tie as tie
 

@@ -4,7 +4,7 @@ use mathlib.Core.Path.{ap, _∙_}
 use mathlib.Core.List.{[], _∷_}
 use Prim.Native.Nat.{ℕ}
 use borrow.Author.Needs.{needs}
-use Rattle.field.specs.Refusals.{Told, result}
+use Rattle.field.specs.Refusals.{result}
 use Rattle.field.proofs.Values.{above-found, above-none}
 use Rattle.field.proofs.operations.power.Statement.{statement}
 use Rattle.field.proofs.operations.power.Tie as tie

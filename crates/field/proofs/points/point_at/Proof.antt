@@ -6,7 +6,7 @@ use Prim.Native.Nat.{ℕ}
 use borrow.Author.Needs.{needs}
 use borrow.Author.Tests.{le-leb, lt-leb}
 use Rattle.field.specs.Points.{pointOf, pointAnswer}
-use Rattle.field.specs.Refusals.{Told, result}
+use Rattle.field.specs.Refusals.{result}
 use Rattle.field.proofs.points.point_at.Statement.{statement}
 use Rattle.field.proofs.points.point_at.Tie as tie
 

@@ -51,7 +51,7 @@ def inverses():
 
 def points():
     """Position i stands for r^i, r the root of order N, N the smallest power of two that is at least n."""
-    for n, i in ((1, 0), (3, 1), (3, 2), (3, 3), (4, 3), (4096, 1), (4096, 4095), (4096, 4096), (4097, 0), (0, 0)):
+    for n, i in ((1, 0), (3, 1), (3, 2), (3, 3), (4, 3), (4, 4), (4096, 1), (4096, 4095), (4096, 4096), (4097, 0), (0, 0)):
         if n < 1 or n > 4096:
             answer = refused(1, 0)
         elif i >= n:

@@ -7,7 +7,7 @@ use native.Mathlib.Omega.{arith}
 use lib.ListN.{getD}
 use Rattle.field.specs.Operations.{told}
 use Rattle.field.specs.Points.{toldPoint}
-use Rattle.field.specs.Refusals.{Told, result, refusal, refused, numberOf, placeOf}
+use Rattle.field.specs.Refusals.{Answer, result, refusal, refused, numberOf, placeOf}
 use Rattle.field.specs.declared.operations.SymbolAnswer.{SymbolAnswer}
 use Rattle.field.specs.declared.operations.SymbolAnswer.the-variants.{Symbol, Refused}
 use Rattle.field.specs.declared.points.PointAnswer.{PointAnswer}
@@ -34,7 +34,7 @@ named-told (Tail b) = refl
 named-told Form = refl
 
 -- the refusal that an answer tells; Form where it tells a result
-unfold-told : Told → Refusal
+unfold-told : Answer → Refusal
 unfold-told (result vs) = Form
 unfold-told (refusal n i) = named n i
 
@@ -52,7 +52,7 @@ told-one (Refused x) (Symbol v) e = absurd (result-no-refusal (sym e))
 told-one (Refused x) (Refused y) e = ap Refused (refusals-told x y e)
 
 pub told-point-one : (r s : PointAnswer) → toldPoint r ≡ toldPoint s → r ≡ s
-told-point-one (P.Is u) (P.Is v) e = let same : u .0 ≡ v .0 = cc in ap (λ (w : ℕ). P.Is (record { 0 = w })) same
-told-point-one (P.Is u) (P.Refused y) e = absurd (result-no-refusal e)
-told-point-one (P.Refused x) (P.Is v) e = absurd (result-no-refusal (sym e))
+told-point-one (P.Point u) (P.Point v) e = let same : u .0 ≡ v .0 = cc in ap (λ (w : ℕ). P.Point (record { 0 = w })) same
+told-point-one (P.Point u) (P.Refused y) e = absurd (result-no-refusal e)
+told-point-one (P.Refused x) (P.Point v) e = absurd (result-no-refusal (sym e))
 told-point-one (P.Refused x) (P.Refused y) e = ap P.Refused (refusals-told x y e)

@@ -8,7 +8,7 @@ use native.Mathlib.Decide.{decLe}
 use native.Mathlib.Nat.{zero-add, zero-mul, suc-mul, mul-comm, mod-eq-of-lt, pow-suc, pow-succ', eq-zero-or-pos}
 use native.Mathlib.Omega.{arith}
 use lib.Dec.{eqb, eqb→eq, ltb, ltb→lt}
-use lib.Pow.{pow-add}
+use lib.Pow.{pow-add, pow-pos}
 use Rattle.field.specs.Congruence.{_≈_}
 use Rattle.field.specs.Field.{product, power}
 use Rattle.field.specs.Roots.{roots, root, HasOrder}
@@ -108,7 +108,7 @@ root-multiple (suc i) h d e =
 
 pub root-order : (i : ℕ) → i < 17 → HasOrder (root i) (2 ^ i)
 unfolding power
-root-order i h = record { full = root-full i h .mods; least = λ d some less e. none d some less (root-multiple i h d (record { mods = e })) }
+root-order i h = record { some = pow-pos i; full = root-full i h .mods; least = λ d some less e. none d some less (root-multiple i h d (record { mods = e })) }
   where
     none : (d : ℕ) → 0 < d → d < 2 ^ i → ¬ ((k : ℕ) × (d ≡ k * 2 ^ i))
     none d some less (zero, e) = omega (arith, zero-mul (2 ^ i))

@@ -11,8 +11,8 @@ use Rattle.field.specs.Field.{product, power}
 use Rattle.field.specs.Points.{rootOf, pointOf}
 use Rattle.field.specs.Roots.{root}
 use Rattle.field.specs.Size.{levelOf, sizeOf}
-use Rattle.field.specs.Refusals.{Told}
-use Rattle.field.specs.Theorems.{CommutativeRing, Inverses, NoZeroDivisors, RootSquares, RootPowers, RootOrders, RootHalves, RootPowersDistinct, SizeSmallest, PointsDistinct, RefusalsTold, NumberSettled, PlaceSettled, Settled, SumSettled, DifferenceSettled, ProductSettled, PowerSettled, InverseSettled, PointSettled}
+use Rattle.field.specs.Refusals.{Answer}
+use Rattle.field.specs.Theorems.{CommutativeRing, Inverses, NoZeroDivisors, RootSquares, RootPowers, RootOrders, RootHalves, RootPowersDistinct, SizeSmallest, RootOfSize, PointsDistinct, RefusalsTold, NumberSettled, PlaceSettled, SymbolSettled, Settled, SumSettled, DifferenceSettled, ProductSettled, PowerSettled, InverseSettled, PointSettled}
 use Rattle.field.proofs.Congruence.{reduced}
 use Rattle.field.proofs.Fermat.{inverse-≈, no-divisors}
 use Rattle.field.proofs.Refusals as R
@@ -23,6 +23,9 @@ use Rattle.field.proofs.Size.{level-le, level-size, size-enough, size-l
 pub commutative-ring : CommutativeRing
 commutative-ring =
     record {
+      sum-closed = Ring.sum-lt;
+      difference-closed = Ring.difference-lt;
+      product-closed = Ring.product-lt;
       sum-commutes = Ring.sum-comm;
       sum-associates = Ring.sum-assoc;
       sum-zero = λ a h. Ring.sum-zero h;
@@ -73,6 +76,10 @@ root-powers-distinct i h a b la lb e = Roots.powers-distinct (root i) (2 ^ i) (r
 pub size-smallest : SizeSmallest
 size-smallest n h = (size-enough n h, size-least n)
 
+pub root-of-size : RootOfSize
+unfolding rootOf sizeOf
+root-of-size n = rw level-size (root-orders (levelOf n) (level-le n))
+
 pub points-distinct : PointsDistinct
 unfolding pointOf rootOf sizeOf
 points-distinct n i j li lj e = root-powers-distinct (levelOf n) (level-le n) i j li lj (simp level-size at e)
@@ -86,7 +93,10 @@ number-settled x r s p q = p ∙ sym q
 pub place-settled : PlaceSettled
 place-settled x r s p q = p ∙ sym q
 
-settled : (t : Told) → Settled t
+pub symbol-settled : SymbolSettled
+symbol-settled v r s p q = p .is ∙ sym (q .is)
+
+settled : (t : Answer) → Settled t
 settled t r s p q = R.told-one r s (p ∙ sym q)
 
 pub sum-settled : SumSettled

@@ -1,24 +1,29 @@
 -- What the search for a value above 65536 tells: a refusal by VALUE where it found one, symbols throughout where it found none.
 -- Assumes nothing.
-use mathlib.Core.Path.{_≡_}
+use mathlib.Core.Path.{_≡_, ap, _∙_}
 use mathlib.Core.List.{List, [], _∷_}
 use Prim.Native.Nat.{ℕ, _<_, _≤_, suc-le-suc}
 use native.Mathlib.Nat.{le-of-eq, le-trans, lt-of-lt-of-le}
 use borrow.Author.Tests.{lt-ltb, le-ltb, ltb-false}
 use lib.Dec.{ltb, lit<}
 use lib.ListN.{length, getD}
-use Rattle.field.specs.Refusals.{Told, refused}
+use Rattle.field.specs.Refusals.{Answer, result, refused}
 use Rattle.field.specs.Values.{firstAbove, refuseAbove}
 use Rattle.field.specs.declared.refusal.Refusal.the-variants.{Value}
 use Rattle.field.proofs.First.{first-before}
 
-pub above-found : (values : List ℕ) (later : Told) {x : ℕ} → x ≡ firstAbove values → x < length values
+pub above-found : (values : List ℕ) (later : Answer) {x : ℕ} → x ≡ firstAbove values → x < length values
     → refused (Value x) ≡ refuseAbove values later
 above-found values later {x} e h = rw (← e, lt-ltb x (length values) h)
 
-pub above-none : (values : List ℕ) (later : Told) {x : ℕ} → x ≡ firstAbove values → length values ≤ x
+pub above-none : (values : List ℕ) (later : Answer) {x : ℕ} → x ≡ firstAbove values → length values ≤ x
     → later ≡ refuseAbove values later
 above-none values later {x} e h = rw (← e, le-ltb x (length values) h)
+
+-- the same where the result is one number
+pub above-none-value : (values : List ℕ) {x r v : ℕ} → x ≡ firstAbove values → length values ≤ x → r ≡ v
+    → result (r ∷ []) ≡ refuseAbove values (result (v ∷ []))
+above-none-value values e h is = ap (λ (v : ℕ). result (v ∷ [])) is ∙ above-none values _ e h
 
 pub all-symbols : (values : List ℕ) {x : ℕ} → x ≡ firstAbove values → length values ≤ x → (i : ℕ) → i < length values
     → getD values i 0 < 65537

@@ -1,4 +1,4 @@
--- Equality modulo 65537, of numbers that need not be reduced: the laws of the field are proved with it, and a reduced number is unique.
+-- Equality modulo 65537 of numbers that need not be reduced: in it the laws of the field and of polynomials are exact.
 use mathlib.Core.Path.{_≡_}
 use Prim.Native.Nat.{ℕ, _%_}
 

@@ -12,8 +12,8 @@ unfoldable pub product : ℕ → ℕ → ℕ
 product a b = a * b % 65537
 
 unfoldable pub power : ℕ → ℕ → ℕ
-power x n = x ^ n % 65537
+power x e = x ^ e % 65537
 
--- "The inverse of a nonzero symbol is its power 65535. Zero has no inverse."
+-- "The inverse of a nonzero symbol is its power 65535." Zero has none: `inverseAnswer` refuses it.
 unfoldable pub inverse : ℕ → ℕ
 inverse x = power x 65535

@@ -32,14 +32,14 @@ placeOf (Word b) = b
 placeOf (Tail b) = b
 placeOf Form = 0
 
--- "Each answer is the result or a refusal number with one place number."
-pub data Told : Type 0 where
-  result : List ℕ → Told
-  refusal : ℕ → ℕ → Told
+-- an answer on paper: "Each answer is the result or a refusal number with one place number."
+pub data Answer : Type 0 where
+  result : List ℕ → Answer
+  refusal : ℕ → ℕ → Answer
 
-abbrev pub refused : Refusal → Told
+abbrev pub refused : Refusal → Answer
 refused x = refusal (numberOf x) (placeOf x)
 
 -- a check: where it is bad, this refusal, else what the later checks and the work answer
-abbrev pub refuseIf : Bool → Refusal → Told → Told
+abbrev pub refuseIf : Bool → Refusal → Answer → Answer
 refuseIf bad x later = cond bad (refused x) later

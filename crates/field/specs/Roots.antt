@@ -29,7 +29,8 @@ roots =
 unfoldable pub root : ℕ → ℕ
 root i = getD roots i 0
 
--- r has order n: its power n is 1, and no smaller power above 0 is
-pub record HasOrder (r n : ℕ) : Type 0 where
-  pub full : power r n ≡ 1
-  pub least : (d : ℕ) → 0 < d → d < n → ¬ (power r d ≡ 1)
+-- the order of r: the least number above 0 whose power is 1
+pub record HasOrder (r order : ℕ) : Type 0 where
+  pub some : 0 < order
+  pub full : power r order ≡ 1
+  pub least : (d : ℕ) → 0 < d → d < order → ¬ (power r d ≡ 1)

@@ -3,7 +3,7 @@ use mathlib.Core.Bool.{Bool, _||_}
 use Prim.Native.Nat.{ℕ}
 use lib.Dec.{ltb, eqb}
 
--- the longest code word
+-- what n may be at most
 unfoldable pub longest : ℕ
 longest = 4096
 

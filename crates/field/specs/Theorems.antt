@@ -4,10 +4,11 @@ use mathlib.Core.Logic.{_⊎_}
 use Prim.Native.Nat.{ℕ, suc, _-_, _^_, _<_, _≤_}
 use Rattle.field.specs.Field.{sum, difference, product, power, inverse}
 use Rattle.field.specs.Operations.{told, sumAnswer, differenceAnswer, productAnswer, powerAnswer, inverseAnswer}
-use Rattle.field.specs.Points.{pointOf, toldPoint, pointAnswer}
-use Rattle.field.specs.Refusals.{Told, refused, numberOf, placeOf}
+use Rattle.field.specs.Points.{rootOf, pointOf, toldPoint, pointAnswer}
+use Rattle.field.specs.Refusals.{Answer, refused, numberOf, placeOf}
 use Rattle.field.specs.Roots.{root, HasOrder}
 use Rattle.field.specs.Size.{sizeOf}
+use Rattle.field.specs.Symbol.{IsSymbol}
 use Rattle.field.specs.declared.operations.SymbolAnswer.{SymbolAnswer}
 use Rattle.field.specs.declared.points.PointAnswer.{PointAnswer}
 use Rattle.field.specs.declared.refusal.Refusal.{Refusal}
@@ -15,6 +16,9 @@ use Rattle.field.specs.declared.refusal.Refusal.{Refusal}
 -- The field is a commutative ring
 
 pub record CommutativeRing : Type 0 where
+  pub sum-closed : (a b : ℕ) → sum a b < 65537
+  pub difference-closed : (a b : ℕ) → difference a b < 65537
+  pub product-closed : (a b : ℕ) → product a b < 65537
   pub sum-commutes : (a b : ℕ) → sum a b ≡ sum b a
   pub sum-associates : (a b c : ℕ) → sum (sum a b) c ≡ sum a (sum b c)
   pub sum-zero : (a : ℕ) → a < 65537 → sum a 0 ≡ a
@@ -45,7 +49,7 @@ RootPowers = (i : ℕ) → i ≤ 16 → root i ≡ power 3 (2 ^ (16 - i))
 abbrev pub RootOrders : Type 0
 RootOrders = (i : ℕ) → i ≤ 16 → HasOrder (root i) (2 ^ i)
 
--- half way round stands minus one
+-- the power 2 ^ (i - 1) of root i is 65536
 abbrev pub RootHalves : Type 0
 RootHalves = (i : ℕ) → 0 < i → i ≤ 16 → power (root i) (2 ^ (i - 1)) ≡ 65536
 
@@ -57,6 +61,10 @@ RootPowersDistinct = (i : ℕ) → i ≤ 16 → (a b : ℕ) → a < 2 ^ i → b 
 -- N is the smallest power of two that is at least n
 abbrev pub SizeSmallest : Type 0
 SizeSmallest = (n : ℕ) → n ≤ 65536 → (n ≤ sizeOf n) × ((e : ℕ) → n ≤ 2 ^ e → sizeOf n ≤ 2 ^ e)
+
+-- the root that n gives has order N
+abbrev pub RootOfSize : Type 0
+RootOfSize = (n : ℕ) → HasOrder (rootOf (sizeOf n)) (sizeOf n)
 
 -- the N points of a code word are distinct
 abbrev pub PointsDistinct : Type 0
@@ -75,8 +83,12 @@ NumberSettled = (x : Refusal) (r s : ℕ) → r ≡ numberOf x → s ≡ numberO
 abbrev pub PlaceSettled : Type 0
 PlaceSettled = (x : Refusal) (r s : ℕ) → r ≡ placeOf x → s ≡ placeOf x → r ≡ s
 
+-- what an inner function promises of a symbol settles it too
+abbrev pub SymbolSettled : Type 0
+SymbolSettled = (v r s : ℕ) → IsSymbol r v → IsSymbol s v → r ≡ s
+
 -- two answers that tell the same are equal
-abbrev pub Settled : Told → Type 0
+abbrev pub Settled : Answer → Type 0
 Settled t = (r s : SymbolAnswer) → told r ≡ t → told s ≡ t → r ≡ s
 
 abbrev pub SumSettled : Type 0
@@ -89,7 +101,7 @@ abbrev pub ProductSettled : Type 0
 ProductSettled = (a b : ℕ) → Settled (productAnswer a b)
 
 abbrev pub PowerSettled : Type 0
-PowerSettled = (x n : ℕ) → Settled (powerAnswer x n)
+PowerSettled = (x e : ℕ) → Settled (powerAnswer x e)
 
 abbrev pub InverseSettled : Type 0
 InverseSettled = (x : ℕ) → Settled (inverseAnswer x)

@@ -4,11 +4,11 @@ use Prim.Native.Nat.{ℕ}
 use lib.Dec.{ltb}
 use lib.ListN.{length, getD}
 use Rattle.field.specs.First.{first}
-use Rattle.field.specs.Refusals.{Told, refuseIf}
+use Rattle.field.specs.Refusals.{Answer, refuseIf}
 use Rattle.field.specs.declared.refusal.Refusal.the-variants.{Value}
 
 unfoldable pub firstAbove : List ℕ → ℕ
 firstAbove values = first (length values) (λ i. ltb 65536 (getD values i 0))
 
-abbrev pub refuseAbove : List ℕ → Told → Told
+abbrev pub refuseAbove : List ℕ → Answer → Answer
 refuseAbove values = refuseIf (ltb (firstAbove values) (length values)) (Value (firstAbove values))

@@ -1,5 +1,5 @@
-// No entry points: what the crates above call once they have tested their own input. A number that a function asks to be below 65537 is
-// not tested again.
+// No entry points: the tests and the work that the entry points here and in the crates above are made of. Sum and difference ask for symbols,
+// and root for an index of the table; the others take any number, and it is the entry point that refuses.
 use crate::points::Point;
 use crate::points::Position;
 ghost use mathlib.Core.Path.{_≡_};
@@ -12,7 +12,7 @@ ghost use Rattle.field.specs.Size.{IsLevel, sizeOf};
 ghost use Rattle.field.specs.Symbol.{IsSymbol};
 ghost use Rattle.field.specs.Values.{firstAbove};
 
-// The longest code word.
+// What n may be at most.
 pub const LONGEST: usize = 4096;
 
 // The root of order 2^i at index i: each is the square of the next one.
@@ -60,13 +60,13 @@ pub fn product(a: u32, b: u32) -> u32
     (wide % 65537) as u32
 }
 
-// By squaring: at the loop's head result · base^left is x^n.
-pub fn power(x: u32, n: usize) -> u32
-    ensures { λ r. ⌜ IsSymbol r (power x n) ⌝ }
+// By squaring: at the loop's head result · base^left is the power.
+pub fn power(x: u32, exponent: usize) -> u32
+    ensures { λ r. ⌜ IsSymbol r (power x exponent) ⌝ }
 {
     let mut result: u32 = 1;
     let mut base = x;
-    let mut left = n;
+    let mut left = exponent;
     while 0 < left {
         if left % 2 == 1 {
             result = product(result, base);
@@ -91,7 +91,7 @@ pub fn root(level: usize) -> u32
     ROOTS[level]
 }
 
-// The exponent of N, at most 16.
+// The index of N's root in the table. Above 65536 there is no such root, and the answer is the last index.
 pub fn level(n: usize) -> usize
     ensures { λ r. ⌜ IsLevel r n ⌝ }
 {
@@ -107,14 +107,14 @@ pub fn level(n: usize) -> usize
     level
 }
 
-// N.
+// N, for n up to 65536.
 pub fn size(n: usize) -> usize
     ensures { λ r. ⌜ r ≡ sizeOf n ⌝ }
 {
     1 << level(n)
 }
 
-// The one way from a position to a point, by N.
+// The one way from a position to a point; size is N.
 pub fn point(position: Position, size: usize) -> Point
     ensures { λ r. ⌜ IsSymbol (r .0) (pointOf size (position .0)) ⌝ }
 {
@@ -122,7 +122,7 @@ pub fn point(position: Position, size: usize) -> Point
     Point(power(root(level(size)), i))
 }
 
-// SHAPE of a block.
+// Whether SHAPE refuses a block of k message symbols and n coded ones.
 pub fn bad_shape(k: usize, n: usize) -> bool
     ensures { λ r. ⌜ r ≡ badShape k n ⌝ }
 {

@@ -3,12 +3,20 @@ use crate::inner;
 use crate::refusal::Refusal;
 ghost use mathlib.Core.Path.{_≡_};
 ghost use mathlib.Core.List.{[], _∷_};
+ghost use Rattle.field.specs.Refusals.{refused};
 ghost use Rattle.field.specs.Values.{firstAbove};
 ghost use Rattle.field.specs.Operations.{told, sumAnswer, differenceAnswer, productAnswer, powerAnswer, inverseAnswer};
 
 pub enum SymbolAnswer {
     Symbol(u32),
     Refused(Refusal),
+}
+
+// The refusal of the operand at an index.
+fn refuse(index: usize) -> SymbolAnswer
+    ensures { λ r. ⌜ told r ≡ refused (Refusal.Value index) ⌝ }
+{
+    SymbolAnswer::Refused(Refusal::Value(index))
 }
 
 // The index of the first operand that is no symbol, 2 where both are.
@@ -24,7 +32,7 @@ pub fn sum(a: u32, b: u32) -> SymbolAnswer
 {
     let above = first_operand_above(a, b);
     if above < 2 {
-        return SymbolAnswer::Refused(Refusal::Value(above));
+        return refuse(above);
     }
     SymbolAnswer::Symbol(inner::sum(a, b))
 }
@@ -34,7 +42,7 @@ pub fn difference(a: u32, b: u32) -> SymbolAnswer
 {
     let above = first_operand_above(a, b);
     if above < 2 {
-        return SymbolAnswer::Refused(Refusal::Value(above));
+        return refuse(above);
     }
     SymbolAnswer::Symbol(inner::difference(a, b))
 }
@@ -44,30 +52,31 @@ pub fn product(a: u32, b: u32) -> SymbolAnswer
 {
     let above = first_operand_above(a, b);
     if above < 2 {
-        return SymbolAnswer::Refused(Refusal::Value(above));
+        return refuse(above);
     }
     SymbolAnswer::Symbol(inner::product(a, b))
 }
 
 // The exponent is an operand like the base: x to the power 65536 is 1 or 0, so larger ones give nothing new.
-pub fn power(x: u32, n: u32) -> SymbolAnswer
-    ensures { λ r. ⌜ told r ≡ powerAnswer x n ⌝ }
+pub fn power(x: u32, exponent: u32) -> SymbolAnswer
+    ensures { λ r. ⌜ told r ≡ powerAnswer x exponent ⌝ }
 {
-    let above = first_operand_above(x, n);
+    let above = first_operand_above(x, exponent);
     if above < 2 {
-        return SymbolAnswer::Refused(Refusal::Value(above));
+        return refuse(above);
     }
-    SymbolAnswer::Symbol(inner::power(x, n as usize))
+    SymbolAnswer::Symbol(inner::power(x, exponent as usize))
 }
 
 // Zero has no inverse.
 pub fn inverse(x: u32) -> SymbolAnswer
     ensures { λ r. ⌜ told r ≡ inverseAnswer x ⌝ }
 {
-    if 0 < x {
-        if x < 65537 {
-            return SymbolAnswer::Symbol(inner::inverse(x));
-        }
+    if 65536 < x {
+        return refuse(0);
     }
-    SymbolAnswer::Refused(Refusal::Value(0))
+    if x == 0 {
+        return refuse(0);
+    }
+    SymbolAnswer::Symbol(inner::inverse(x))
 }

@@ -1,4 +1,5 @@
-// A position is a place in the code word, a point a number of the field; inner::point alone leads from one to the other.
+// A position is a place in the code word, a point a number of the field. They have types of their own, and inner::point is the one
+// function that leads from one to the other.
 use crate::inner;
 use crate::refusal::Refusal;
 ghost use mathlib.Core.Path.{_≡_};
@@ -9,7 +10,7 @@ pub struct Position(pub usize);
 pub struct Point(pub u32);
 
 pub enum PointAnswer {
-    Is(Point),
+    Point(Point),
     Refused(Refusal),
 }
 
@@ -25,5 +26,5 @@ pub fn point_at(n: usize, position: Position) -> PointAnswer
     if n <= i {
         return PointAnswer::Refused(Refusal::Position(0));
     }
-    PointAnswer::Is(inner::point(position, size))
+    PointAnswer::Point(inner::point(position, size))
 }

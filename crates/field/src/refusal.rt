@@ -16,7 +16,6 @@ pub enum Refusal {
     Form,
 }
 
-// Document 01's number of a refusal.
 pub fn number(refusal: Refusal) -> u32
     ensures { λ r. ⌜ r ≡ numberOf refusal ⌝ }
 {

@@ -1,4 +1,4 @@
-// Runs document 01's worked cases and limits, one to a line; what it must write was worked out apart from it, by tests/vectors.py.
+// Runs the field's worked numbers and limits, one to a line; what it must write is worked out apart from it, by tests/vectors.py.
 mod show;
 
 use field::Position;
@@ -12,7 +12,7 @@ fn main() {
     points();
 }
 
-// Where 65536 would be lost in sixteen bits, or its square in thirty-two.
+// Numbers at the modulus: 65536 is lost in sixteen bits, its square in thirty-two, and a difference would fall below 0.
 fn operations() {
     sum(65536, 1);
     sum(65536, 65536);
@@ -25,7 +25,7 @@ fn operations() {
     power(0, 0);
 }
 
-// The first operand above 65536 is the refusal's place.
+// The place is the index of the first operand above 65536.
 fn operands() {
     sum(65537, 0);
     sum(0, 65537);
@@ -58,6 +58,7 @@ fn points() {
     point(3, 2);
     point(3, 3);
     point(4, 3);
+    point(4, 4);
     point(4096, 1);
     point(4096, 4095);
     point(4096, 4096);

@@ -61,7 +61,7 @@ pub fn point(n: usize, i: usize, answer: PointAnswer) {
     number(i as u64);
     text(b" = ");
     match answer {
-        PointAnswer::Is(point) => number(point.0 as u64),
+        PointAnswer::Point(point) => number(point.0 as u64),
         PointAnswer::Refused(refused) => refusal(refused),
     }
     text(b"\n");

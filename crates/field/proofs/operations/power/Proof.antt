@@ -1,11 +1,8 @@
 -- `field::power` meets its contract: it refuses the first operand above 65536, and answers what `inner::power` ensures of symbols.
 -- Assumes nothing.
-use mathlib.Core.Path.{ap, _∙_}
-use mathlib.Core.List.{[], _∷_}
-use Prim.Native.Nat.{ℕ}
+use mathlib.Core.Path.{_∙_}
 use borrow.Author.Needs.{needs}
-use Rattle.field.specs.Refusals.{result}
-use Rattle.field.proofs.Values.{above-found, above-none}
+use Rattle.field.proofs.Values.{above-found, above-none-value}
 use Rattle.field.proofs.operations.power.Statement.{statement}
 use Rattle.field.proofs.operations.power.Tie as tie
 
@@ -14,8 +11,7 @@ power-spec =
     tie.close
     (tie.spec
     (λ c κs. search needs)
-    (λ c. above-found _ _ (c .before .first-operand-above .ensures) (c .if1 .taken))
     (λ c κs. search needs)
-    (λ c.
-    ap (λ (v : ℕ). result (v ∷ [])) (c .power .ensures .is)
-    ∙ above-none _ _ (c .before .before .first-operand-above .ensures) (c .before .if1 .left)))
+    (λ c. c .refuse .ensures ∙ above-found _ _ (c .before .before .first-operand-above .ensures) (c .before .if1 .taken))
+    (λ c κs. search needs)
+    (λ c. above-none-value _ (c .before .before .first-operand-above .ensures) (c .before .if1 .left) (c .power .ensures .is)))

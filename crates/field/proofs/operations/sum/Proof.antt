@@ -1,11 +1,8 @@
 -- `field::sum` meets its contract: it refuses the first operand above 65536, and answers what `inner::sum` ensures of symbols.
 -- Assumes nothing.
-use mathlib.Core.Path.{ap, _∙_}
-use mathlib.Core.List.{[], _∷_}
-use Prim.Native.Nat.{ℕ}
+use mathlib.Core.Path.{_∙_}
 use borrow.Author.Needs.{needs}
-use Rattle.field.specs.Refusals.{result}
-use Rattle.field.proofs.Values.{above-found, above-none, both-symbols}
+use Rattle.field.proofs.Values.{above-found, above-none-value, both-symbols}
 use Rattle.field.proofs.operations.sum.Statement.{statement}
 use Rattle.field.proofs.operations.sum.Tie as tie
 
@@ -14,8 +11,7 @@ sum-spec =
     tie.close
     (tie.spec
     (λ c κs. search needs)
-    (λ c. above-found _ _ (c .before .first-operand-above .ensures) (c .if1 .taken))
+    (λ c κs. search needs)
+    (λ c. c .refuse .ensures ∙ above-found _ _ (c .before .before .first-operand-above .ensures) (c .before .if1 .taken))
     (λ c κs. both-symbols _ _ (c .before .first-operand-above .ensures) (c .if1 .left))
-    (λ c.
-    ap (λ (v : ℕ). result (v ∷ [])) (c .sum .ensures .is)
-    ∙ above-none _ _ (c .before .before .first-operand-above .ensures) (c .before .if1 .left)))
+    (λ c. above-none-value _ (c .before .before .first-operand-above .ensures) (c .before .if1 .left) (c .sum .ensures .is)))

@@ -2,7 +2,7 @@
 -- Assumes nothing.
 use mathlib.Core.Path.{_≡_, sym, ap, _∙_}
 use mathlib.Core.Logic.{⊎-elim}
-use Prim.Native.Nat.{ℕ, _+_, _*_, _^_, _/_, _%_, _≤_, _<_}
+use Prim.Native.Nat.{ℕ, _+_, _*_, _^_, _/_, _%_, _<_}
 use native.Mathlib.Nat.{pow-zero, mul-one, one-mul}
 use native.Mathlib.Omega.{arith}
 use lib.Dec.{lit<}
@@ -34,13 +34,11 @@ turn x n result base left next square held squared more =
 one-over : (result base left : ℕ) → left % 2 ≡ 1 → product result base ≈ result * base ^ (left % 2)
 one-over result base left odd = product-≈ result base ∘≈ ≈-of (ap (result *_) (sym (pow-one base) ∙ ap (base ^_) (sym odd)))
 
-none-over : (result base left : ℕ) → ¬ (left % 2 ≡ 1) → result ≈ result * base ^ (left % 2)
-none-over result base left even =
-    ≈-of (sym (mul-one result) ∙ ap (result *_) (sym (pow-zero base) ∙ ap (base ^_) (omega arith)))
+none-over : (result base over : ℕ) → over ≡ 0 → result ≈ result * base ^ over
+none-over result base over none = ≈-of (sym (mul-one result) ∙ ap (result *_) (sym (pow-zero base) ∙ ap (base ^_) (sym none)))
 
-finished : (x n result base left : ℕ) → left ≤ 0 → result * base ^ left ≈ x ^ n → result ≈ power x n
-finished x n result base left none held =
-    ≈-of (sym (mul-one result) ∙ ap (result *_) (sym (pow-zero base) ∙ ap (base ^_) (omega arith))) ∘≈ held ∘≈ ≈-sym (power-≈ x n)
+finished : (x n result base left : ℕ) → left ≡ 0 → result * base ^ left ≈ x ^ n → result ≈ power x n
+finished x n result base left none held = none-over result base left none ∘≈ held ∘≈ ≈-sym (power-≈ x n)
 
 abbrev Inv-loop : tie.InvT-loop
 Inv-loop x n result₀ base₀ left₀ result base left = (result * base ^ left ≈ x ^ n) × (result < 65537)
@@ -59,7 +57,7 @@ loop-again c =
     ))
     (λ w. (
       turn _ _ (l .result) (l .base) (l .left) _ _ (l .inv .0) (c .product2 .ensures .is)
-          (≈-of (w .1) ∘≈ none-over (l .result) (l .base) (l .left) (w .0 .left)),
+          (≈-of (w .1) ∘≈ none-over (l .result) (l .base) (l .left % 2) (omega (arith, w .0 .left))),
       omega (arith, w .1),
     ))
     (c .before .if1 .came)
@@ -68,7 +66,7 @@ returns : tie.Need-returns Inv-loop μ-loop
 returns c =
     let l = c .before .loop in
     record {
-      is = reduced (finished _ _ (l .result) (l .base) (l .left) (c .loop-test .left) (l .inv .0)) (l .inv .1) (power-lt _ _);
+      is = reduced (finished _ _ (l .result) (l .base) (l .left) (omega arith) (l .inv .0)) (l .inv .1) (power-lt _ _);
       small = l .inv .1;
     }
 

@@ -7,11 +7,13 @@ use native.Mathlib.Omega.{arith}
 use lib.ListN.{getD}
 use Rattle.field.specs.Operations.{told}
 use Rattle.field.specs.Points.{toldPoint}
-use Rattle.field.specs.Refusals.{Answer, result, refusal, refused, numberOf, placeOf}
+use Rattle.field.specs.Refusals.{Answer, result, refusal, refused, numberOf, placeOf, toldOutcome}
 use Rattle.field.specs.declared.operations.SymbolAnswer.{SymbolAnswer}
 use Rattle.field.specs.declared.operations.SymbolAnswer.the-variants.{Symbol, Refused}
 use Rattle.field.specs.declared.points.PointAnswer.{PointAnswer}
 use Rattle.field.specs.declared.points.PointAnswer.the-variants as P
+use Rattle.field.specs.declared.refusal.Outcome.{Outcome}
+use Rattle.field.specs.declared.refusal.Outcome.the-variants as O
 use Rattle.field.specs.declared.refusal.Refusal.{Refusal}
 use Rattle.field.specs.declared.refusal.Refusal.the-variants.{Shape, Length, Room, Few, Position, Repeat, Value, Disagree, Word, Tail, Form}
 
@@ -56,3 +58,9 @@ told-point-one (P.Point u) (P.Point v) e = let same : u .0 ≡ v .0 = cc in ap (
 told-point-one (P.Point u) (P.Refused y) e = absurd (result-no-refusal e)
 told-point-one (P.Refused x) (P.Point v) e = absurd (result-no-refusal (sym e))
 told-point-one (P.Refused x) (P.Refused y) e = ap P.Refused (refusals-told x y e)
+
+pub told-outcome-one : (r s : Outcome) → toldOutcome r ≡ toldOutcome s → r ≡ s
+told-outcome-one O.Done O.Done e = refl
+told-outcome-one O.Done (O.Refused y) e = absurd (result-no-refusal e)
+told-outcome-one (O.Refused x) O.Done e = absurd (result-no-refusal (sym e))
+told-outcome-one (O.Refused x) (O.Refused y) e = ap O.Refused (refusals-told x y e)

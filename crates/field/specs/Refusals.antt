@@ -1,7 +1,9 @@
 -- Numbers a refusal carries (document 01, under that heading).
 use mathlib.Core.Bool.{Bool, cond}
-use mathlib.Core.List.{List}
+use mathlib.Core.List.{List, []}
 use Prim.Native.Nat.{ℕ}
+use Rattle.field.specs.declared.refusal.Outcome.{Outcome}
+use Rattle.field.specs.declared.refusal.Outcome.the-variants.{Done, Refused}
 use Rattle.field.specs.declared.refusal.Refusal.{Refusal}
 use Rattle.field.specs.declared.refusal.Refusal.the-variants.{Shape, Length, Room, Few, Position, Repeat, Value, Disagree, Word, Tail, Form}
 
@@ -43,3 +45,8 @@ refused x = refusal (numberOf x) (placeOf x)
 -- a check: where it is bad, this refusal, else what the later checks and the work answer
 abbrev pub refuseIf : Bool → Refusal → Answer → Answer
 refuseIf bad x later = cond bad (refused x) later
+
+-- an outcome of the code, on paper: its result lies in lent memory
+abbrev pub toldOutcome : Outcome → Answer
+toldOutcome Done = result []
+toldOutcome (Refused x) = refused x

@@ -14,6 +14,7 @@ pub use points::Point;
 pub use points::PointAnswer;
 pub use points::Position;
 pub use points::point_at;
+pub use refusal::Outcome;
 pub use refusal::Refusal;
 pub use refusal::number;
 pub use refusal::place;

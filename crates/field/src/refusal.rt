@@ -16,6 +16,12 @@ pub enum Refusal {
     Form,
 }
 
+// The answer of a call whose result lies in lent memory.
+pub enum Outcome {
+    Done,
+    Refused(Refusal),
+}
+
 pub fn number(refusal: Refusal) -> u32
     ensures { λ r. ⌜ r ≡ numberOf refusal ⌝ }
 {

@@ -1,0 +1,14 @@
+pub mod Tab
+pub mod Window
+pub mod Sum
+pub mod Value
+pub mod Parts
+pub mod Every
+pub mod Distinct
+pub mod Division
+pub mod Counting
+pub mod Raised
+pub mod Interpolation
+pub mod Products
+pub mod AllRoots
+pub mod Theorems

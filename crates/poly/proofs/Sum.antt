@@ -1,0 +1,53 @@
+-- The laws of plain sums: a factor comes out, sums of sums are exchanged, and where all terms but one are 0 that one is left.
+-- Assumes nothing.
+use mathlib.Core.Path.{_≡_, refl, sym, ap, _∙_}
+use Prim.Native.Nat.{ℕ, zero, suc, _+_, _*_, _<_, suc-le-suc}
+use native.Mathlib.Nat.{zero-lt-suc, le-of-suc-le-suc, not-suc-le-zero, suc-inj}
+use native.Mathlib.Omega.{arith}
+use Rattle.field.specs.Congruence.{_≈_}
+use Rattle.field.proofs.Congruence.{≈-refl, ≈-of, _∘≈_, _+≈_}
+use Rattle.poly.specs.Sum.{total}
+
+pub total-ext : (n : ℕ) (f g : ℕ → ℕ) → ((i : ℕ) → i < n → f i ≡ g i) → total n f ≡ total n g
+unfolding total
+total-ext zero f g e = refl
+total-ext (suc n) f g e =
+    cc (e 0 (zero-lt-suc n), total-ext n (λ i. f (suc i)) (λ i. g (suc i)) (λ i h. e (suc i) (suc-le-suc h)))
+
+pub total-≈ : (n : ℕ) (f g : ℕ → ℕ) → ((i : ℕ) → i < n → f i ≈ g i) → total n f ≈ total n g
+unfolding total
+total-≈ zero f g e = ≈-refl
+total-≈ (suc n) f g e =
+    e 0 (zero-lt-suc n) +≈ total-≈ n (λ i. f (suc i)) (λ i. g (suc i)) (λ i h. e (suc i) (suc-le-suc h))
+
+pub total-scale : (n : ℕ) (f : ℕ → ℕ) (c : ℕ) → total n (λ i. c * f i) ≡ c * total n f
+unfolding total
+total-scale zero f c = omega arith
+total-scale (suc n) f c = omega (arith, total-scale n (λ i. f (suc i)) c)
+
+pub total-add : (n : ℕ) (f g : ℕ → ℕ) → total n (λ i. f i + g i) ≡ total n f + total n g
+unfolding total
+total-add zero f g = refl
+total-add (suc n) f g = omega (arith, total-add n (λ i. f (suc i)) (λ i. g (suc i)))
+
+pub total-zero : (n : ℕ) → total n (λ i. 0) ≡ 0
+unfolding total
+total-zero zero = refl
+total-zero (suc n) = omega (arith, total-zero n)
+
+pub total-swap : (m n : ℕ) (f : ℕ → ℕ → ℕ) → total m (λ i. total n (f i)) ≡ total n (λ j. total m (λ i. f i j))
+unfolding total
+total-swap zero n f = sym (total-zero n)
+total-swap (suc m) n f =
+    ap (total n (f 0) +_) (total-swap m n (λ i. f (suc i))) ∙ sym (total-add n (f 0) (λ j. total m (λ i. f (suc i) j)))
+
+pub total-single : (n : ℕ) (f : ℕ → ℕ) (l : ℕ) → l < n → ((i : ℕ) → i < n → ¬ (i ≡ l) → f i ≈ 0) → total n f ≈ f l
+unfolding total
+total-single zero f l h none = absurd (not-suc-le-zero h)
+total-single (suc n) f zero h none =
+    ≈-refl {a = f 0} +≈ (total-≈ n (λ i. f (suc i)) (λ i. 0) (λ i l. none (suc i) (suc-le-suc l) (λ e. omega arith)) ∘≈ ≈-of (total-zero n))
+    ∘≈ ≈-of {b = f 0} (omega arith)
+total-single (suc n) f (suc l) h none =
+    none 0 (zero-lt-suc n) (λ e. omega arith)
+    +≈ total-single n (λ i. f (suc i)) l (le-of-suc-le-suc h) (λ i k d. none (suc i) (suc-le-suc k) (λ e. d (suc-inj e)))
+    ∘≈ ≈-of {b = f (suc l)} (omega arith)

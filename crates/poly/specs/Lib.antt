@@ -1,0 +1,11 @@
+pub mod Tab
+pub mod Sum
+pub mod Value
+pub mod Parts
+pub mod Every
+pub mod Distinct
+pub mod Division
+pub mod Raised
+pub mod Interpolation
+pub mod Products
+pub mod Theorems

@@ -1,0 +1,31 @@
+-- `transform::transform` meets its contract: what the checks refuse leaves all as it was; else the list is worked on in place and the working
+-- space cleared.
+-- Assumes nothing.
+use mathlib.Core.Path.{sym, ap, _∙_}
+use Prim.Native.Nat.{ℕ, _-_}
+use borrow.Author.Needs.{needs}
+use lib.ListN.{length}
+use lib.Seq.{length-front}
+use Rattle.field.specs.Refusals.{toldOutcome}
+use Rattle.transform.specs.Transform.{transformOf}
+use Rattle.transform.proofs.Judged.{judged-good, leaves-done, leaves-refused}
+use Rattle.transform.proofs.calls.transform.Statement.{statement}
+use Rattle.transform.proofs.calls.transform.Tie as tie
+
+pub transform-spec : {M : Type 1} → statement M
+transform-spec =
+    tie.close
+    (tie.spec
+    (λ c κs. search needs)
+    (λ c. search needs)
+    (λ c κs. judged-good _ _ (sym (c .before .before .before .judge .ensures) ∙ ap toldOutcome (c .before .enum-told .given .1)) .ready)
+    (λ c. search needs)
+    (λ c. search needs)
+    (λ c. judged-good _ _ (sym (c .before .before .before .before .before .before .judge .ensures) ∙ ap toldOutcome (c .before .before .before .before .enum-told .given .1)) .enough)
+    (λ c κs. search needs)
+    (λ c. search needs)
+    (λ c. search needs)
+    (λ c. length-front {A = ℕ} (c .before .before .before .before .before .before .before .before .before .before .before .before .before .before .args .work .now) (c .before .before .clear .last .0) (length (c .before .before .before .before .before .before .before .before .before .before .before .before .before .before .args .list .now) - 0) (c .before .before .clear .kept .0))
+    (λ c. leaves-done _ _ transformOf (sym (c .before .before .before .before .before .before .before .before .before .before .judge .ensures) ∙ ap toldOutcome (c .before .before .before .before .before .before .before .before .enum-told .given .1)) _ _ (c .before .before .before .before .before .before .transform .ensures) (c .before .before .clear .ensures))
+    (λ c. search needs)
+    (λ c. leaves-refused _ _ transformOf (c .before .refusal .given .0 .0) (sym (c .before .before .before .judge .ensures) ∙ ap toldOutcome (c .before .refusal .given .1))))

@@ -1,0 +1,26 @@
+-- `transform::inner::transform` meets its contract: arranged and halved, at the root of order N.
+-- Assumes nothing.
+use mathlib.Core.Path.{subst, sym, ap, _∙_}
+use borrow.Author.Needs.{needs}
+use Rattle.field.specs.Points.{rootOf}
+use Rattle.field.specs.Roots.{root}
+use Rattle.transform.specs.Ready.{Ready}
+use Rattle.transform.proofs.Steps.{arranged-ready, transform-steps}
+use Rattle.transform.proofs.inner.transform.Statement.{statement}
+use Rattle.transform.proofs.inner.transform.Tie as tie
+
+pub transform-spec : {M : Type 1} → statement M
+unfolding rootOf
+transform-spec =
+    tie.close
+    (tie.spec
+    (λ c κs. search needs)
+    (λ c κs. search needs)
+    (λ c κs. c .before .before .before .before .pre .size)
+    (λ c κs. subst Ready (sym (c .before .before .before .arrange .ensures)) (arranged-ready _ (c .before .before .before .before .before .before .before .before .pre)))
+    (λ c. c .before .before .halve .kept .0 ∙ c .before .before .before .before .before .before .arrange .kept .0)
+    (λ c.
+    transform-steps _ (c .before .before .before .before .before .before .before .before .before .before .before .pre) _ _ _
+    (c .before .before .before .before .before .before .before .before .root .ensures .is ∙ ap root (c .before .before .before .before .before .before .before .before .before .level .ensures .is))
+    (c .before .before .before .before .before .before .arrange .ensures)
+    (c .before .before .halve .ensures)))

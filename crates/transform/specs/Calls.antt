@@ -1,0 +1,39 @@
+-- What a caller of the transform and of its inverse is answered, and what the two lent lists hold afterwards.
+use mathlib.Core.Bool.{Bool, _||_, not}
+use mathlib.Core.List.{List, [], _++_}
+use Prim.Native.Nat.{ℕ}
+use lib.Dec.{ltb, eqb}
+use lib.ListN.{length, drop, replicate}
+use Rattle.field.specs.Refusals.{Answer, result, refusal, refuseIf}
+use Rattle.field.specs.Shape.{longest}
+use Rattle.field.specs.Size.{sizeOf}
+use Rattle.field.specs.Values.{refuseAbove}
+use Rattle.field.specs.declared.refusal.Refusal.the-variants.{Shape, Room}
+use Rattle.transform.specs.Transform.{transformOf, inverseOf}
+
+-- SHAPE: "a transform's length is 0, above 4096 or no power of two"
+unfoldable pub badLength : ℕ → Bool
+badLength N = eqb N 0 || ltb longest N || not (eqb (sizeOf N) N)
+
+-- the checks, in the order of the numbers: SHAPE, ROOM, VALUE
+unfoldable pub judged : List ℕ → ℕ → Answer
+judged list room =
+    refuseIf (badLength (length list)) Shape (refuseIf (ltb room (length list)) Room (refuseAbove list (result [])))
+
+-- the answer, and every cell of both lists
+pub record Leaves : Type 0 where
+  pub answer : Answer
+  pub list : List ℕ
+  pub work : List ℕ
+
+-- "On refusals .. nothing lent is written." Else the list holds the result, the stated working space is zero and the rest of it untouched.
+abbrev pub leaves : Answer → (List ℕ → List ℕ) → List ℕ → List ℕ → Leaves
+leaves (refusal n i) f list work = record { answer = refusal n i; list = list; work = work }
+leaves (result vs) f list work =
+    record { answer = result vs; list = f list; work = replicate (length list) 0 ++ drop (length list) work }
+
+abbrev pub transformLeaves : List ℕ → List ℕ → Leaves
+transformLeaves list work = leaves (judged list (length work)) transformOf list work
+
+abbrev pub inverseLeaves : List ℕ → List ℕ → Leaves
+inverseLeaves list work = leaves (judged list (length work)) inverseOf list work

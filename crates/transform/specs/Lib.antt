@@ -1,0 +1,5 @@
+pub mod Transform
+pub mod Halving
+pub mod Order
+pub mod Ready
+pub mod Calls

@@ -1,0 +1,36 @@
+// The entry points: they test their input, refuse by SHAPE, ROOM and VALUE, and work in the list that they are lent.
+use crate::inner;
+use field::Outcome;
+ghost use mathlib.Core.Path.{_≡_};
+ghost use Rattle.field.specs.Refusals.{toldOutcome};
+ghost use Rattle.transform.specs.Calls.{Leaves, transformLeaves, inverseLeaves};
+
+// A_j = sum over i of a_i · r^(ij), in place of the list. The working space is as long as the list, and zero afterwards.
+pub fn transform(list: &mut [u32], work: &mut [u32]) -> Outcome
+    ensures { λ r. ⌜ _≡_ {A = Leaves} (record { answer = toldOutcome r; list = now (list .exit); work = now (work .exit) }) (transformLeaves (now (list .entry)) (now (work .entry))) ⌝ }
+{
+    let size = list.len();
+    match inner::judge(list, work.len()) {
+        Outcome::Done => {
+            inner::transform(list);
+            inner::clear(&mut work[0..size]);
+            Outcome::Done
+        }
+        Outcome::Refused(refusal) => Outcome::Refused(refusal),
+    }
+}
+
+// a_j = (1/N) · sum over i of A_i · r^(-ij), in place of the list. The working space is as long as the list, and zero afterwards.
+pub fn inverse(list: &mut [u32], work: &mut [u32]) -> Outcome
+    ensures { λ r. ⌜ _≡_ {A = Leaves} (record { answer = toldOutcome r; list = now (list .exit); work = now (work .exit) }) (inverseLeaves (now (list .entry)) (now (work .entry))) ⌝ }
+{
+    let size = list.len();
+    match inner::judge(list, work.len()) {
+        Outcome::Done => {
+            inner::inverse(list);
+            inner::clear(&mut work[0..size]);
+            Outcome::Done
+        }
+        Outcome::Refused(refusal) => Outcome::Refused(refusal),
+    }
+}

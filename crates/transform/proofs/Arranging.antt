@@ -10,7 +10,7 @@ use native.Mathlib.Omega.{arith}
 use borrow.Author.Tests.{lt-ltb, le-ltb}
 use lib.ListN.{length, getD, set, length-set}
 use lib.Seq.{getD-set-same, getD-set-other}
-use Rattle.field.specs.Size.{levelOf, sizeOf}
+use Rattle.field.specs.Size.{levelOf}
 use Rattle.poly.specs.Tab.{tab}
 use Rattle.poly.proofs.Tab.{tab-ext, tab-getD}
 use Rattle.transform.specs.Order.{reversed, arranged, exchanged}

@@ -1,17 +1,17 @@
 -- What the checks tell: where they pass, the list is ready and there is room; and what a call then leaves.
 -- Assumes nothing.
 use mathlib.Core.Path.{_≡_, refl, sym, ap, ap₂, _∙_}
-use mathlib.Core.Bool.{Bool, true, false, cond, not, _||_}
+use mathlib.Core.Bool.{Bool, true, false, _||_}
 use mathlib.Core.List.{List, [], _++_}
-use Prim.Native.Nat.{ℕ, _-_, _+_, _≤_, _<_}
+use Prim.Native.Nat.{ℕ, _-_, _+_, _≤_}
 use native.Mathlib.Omega.{arith}
-use borrow.Author.Tests.{ltb-false, ltb-true, eqb-true, not-false}
+use borrow.Author.Tests.{ltb-false, eqb-true, not-false}
 use lib.Dec.{ltb, eqb}
 use lib.ListN.{length, take, drop, replicate, length-take}
-use Rattle.field.specs.Refusals.{Answer, result, refusal, refused, refuseIf}
+use Rattle.field.specs.Refusals.{Answer, result, refused, refuseIf}
 use Rattle.field.specs.Shape.{longest}
 use Rattle.field.specs.Size.{sizeOf}
-use Rattle.field.specs.Values.{firstAbove, refuseAbove}
+use Rattle.field.specs.Values.{firstAbove}
 use Rattle.field.specs.declared.refusal.Refusal.{Refusal}
 use Rattle.field.specs.declared.refusal.Refusal.the-variants.{Shape, Room, Value}
 use Rattle.field.proofs.Refusals.{result-no-refusal}
@@ -24,7 +24,7 @@ passed : (bad : Bool) (x : Refusal) (later : Answer) (vs : List ℕ) → refuseI
 passed true x later vs e = absurd (result-no-refusal (sym e))
 passed false x later vs e = (refl, e)
 
-or-false : (a b : Bool) → a || b ≡ false → (a ≡ false) × (b ≡ false)
+pub or-false : (a b : Bool) → a || b ≡ false → (a ≡ false) × (b ≡ false)
 or-false true b e = absurd (let z : _≡_ {A = ℕ} 0 1 = cc in omega arith)
 or-false false b e = (refl, e)
 

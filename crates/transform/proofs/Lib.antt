@@ -7,3 +7,4 @@ pub mod Joining
 pub mod Halves
 pub mod Steps
 pub mod Judged
+pub mod Theorems

@@ -2,20 +2,20 @@
 -- size. So halving the arranged list side by side is halving by even and odd places.
 -- Assumes nothing.
 use mathlib.Core.Path.{_≡_, refl, sym, ap, ap₂, _∙_}
-use mathlib.Core.List.{List, [], _∷_, _++_}
+use mathlib.Core.List.{List, _++_}
 use Prim.Native.Nat.{ℕ, zero, suc, _+_, _*_, _^_, _/_, _%_, _<_, _≤_}
 use native.Mathlib.Nat.{pow-suc, mul-le-mul-left}
 use native.Mathlib.Omega.{arith}
 use lib.Dec.{lit<}
-use lib.ListN.{length, getD, take, drop}
-use lib.Pow.{pow-pos}
+use lib.ListN.{length, getD}
 use lib.Seq.{take-at, drop-at}
 use Rattle.field.specs.Field.{product}
-use Rattle.field.specs.Size.{levelOf, sizeOf}
+use Rattle.field.specs.Size.{levelOf}
+use Rattle.field.proofs.Size.{level-power}
 use Rattle.poly.specs.Parts.{evens, odds}
 use Rattle.poly.specs.Tab.{tab}
 use Rattle.poly.proofs.Parts.{parts-length, parts-at}
-use Rattle.poly.proofs.Tab.{tab-length, tab-at, tab-ext, tab-append, tab-getD}
+use Rattle.poly.proofs.Tab.{tab-length, tab-ext, tab-append, tab-getD}
 use Rattle.transform.specs.Halving.{joined, halving}
 use Rattle.transform.specs.Order.{reversed, arranged, halved}
 
@@ -59,6 +59,12 @@ reversed-twice (suc k) i h =
 
 unfoldable pub inOrder : ℕ → List ℕ → List ℕ
 inOrder k a = tab (2 ^ k) (λ i. getD a (reversed k i) 0)
+
+pub arranged-in-order : (k : ℕ) → k ≤ 16 → (a : List ℕ) → length a ≡ 2 ^ k → arranged a ≡ inOrder k a
+unfolding arranged inOrder
+arranged-in-order k h a long =
+    ap (λ (n : ℕ). tab n (λ i. getD a (reversed (levelOf n) i) 0)) long
+    ∙ ap (λ (l : ℕ). tab (2 ^ k) (λ i. getD a (reversed l i) 0)) (level-power k h)
 
 in-order-length : (k : ℕ) (a : List ℕ) → length (inOrder k a) ≡ 2 ^ k
 unfolding inOrder

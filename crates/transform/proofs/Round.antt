@@ -4,15 +4,14 @@
 use mathlib.Core.Path.{_≡_, refl, sym, ap, _∙_}
 use mathlib.Core.List.{List}
 use Prim.Native.Nat.{ℕ, zero, suc, _+_, _*_, _^_, _%_, _<_}
-use native.Mathlib.Nat.{mul-comm, pow-suc, pow-zero, mod-eq-of-lt}
+use native.Mathlib.Nat.{mul-comm, pow-suc, pow-zero}
 use native.Mathlib.Omega.{arith}
 use lib.ListN.{length, getD}
 use Rattle.field.specs.Congruence.{_≈_}
-use Rattle.field.proofs.Congruence.{≈-refl, ≈-of, ≈-sym, _∘≈_, _+≈_, _·≈_, mul-≈, pow-≈, mod-≈, comb, wrap, reduced}
+use Rattle.field.proofs.Congruence.{≈-refl, ≈-of, _∘≈_, _·≈_, mul-≈, pow-≈, mod-≈, comb}
 use Rattle.field.proofs.Fermat.{no-divisors}
 use Rattle.field.proofs.Powers.{pow-times, mul-pow, one-pow}
 use Rattle.poly.specs.Sum.{total}
-use Rattle.poly.specs.Tab.{tab}
 use Rattle.poly.specs.Value.{value}
 use Rattle.poly.proofs.Sum.{total-ext, total-≈, total-scale, total-swap, total-single}
 use Rattle.poly.proofs.Value.{plain-sum, value-tab}

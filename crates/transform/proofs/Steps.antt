@@ -1,8 +1,8 @@
 -- The steps of the code, one after the other, are the transform: arranged, halved and, for the inverse, scaled.
 -- Assumes nothing.
-use mathlib.Core.Path.{_≡_, refl, sym, ap, _∙_}
+use mathlib.Core.Path.{_≡_, sym, ap, _∙_}
 use mathlib.Core.List.{List}
-use Prim.Native.Nat.{ℕ, zero, suc, _+_, _*_, _^_, _<_, _≤_}
+use Prim.Native.Nat.{ℕ, zero, suc, _^_, _≤_}
 use native.Mathlib.Omega.{arith}
 use lib.ListN.{length, getD}
 use lib.Pow.{pow-mono}
@@ -16,11 +16,10 @@ use Rattle.field.proofs.Roots.{root-half}
 use Rattle.field.proofs.Size.{level-le}
 use Rattle.poly.specs.Tab.{tab}
 use Rattle.poly.proofs.Tab.{tab-length, tab-at}
-use Rattle.transform.specs.Halving.{halving}
 use Rattle.transform.specs.Order.{reversed, arranged, halved}
 use Rattle.transform.specs.Ready.{Ready}
 use Rattle.transform.specs.Transform.{transformOf, inverseOf}
-use Rattle.transform.proofs.Order.{inOrder, halved-is, reversed-lt}
+use Rattle.transform.proofs.Order.{reversed-lt, arranged-in-order, halved-is}
 use Rattle.transform.proofs.Sums.{values, values-length, Halfway, halving-values}
 use Rattle.transform.proofs.Undo.{opposite, transform-values, inverse-values}
 
@@ -40,10 +39,6 @@ module _ (d : List ℕ) (ready : Ready d) where
 
   pub short : length d ≤ 65536
   short = omega (arith, size, pow-mono (level-le (length d)))
-
-  arranged-is : arranged d ≡ inOrder (levelOf (length d)) d
-  unfolding arranged inOrder
-  arranged-is = ap (λ (n : ℕ). tab n (λ i. getD d (reversed (levelOf (length d)) i) 0)) size
 
   arranged-length : length (arranged d) ≡ length d
   unfolding arranged
@@ -67,7 +62,7 @@ module _ (d : List ℕ) (ready : Ready d) where
       two
       ∙ ap (λ (l : List ℕ). halved (levelOf (length l)) r l) one
       ∙ ap (λ (n : ℕ). halved (levelOf n) r (arranged d)) arranged-length
-      ∙ ap (halved (levelOf (length d)) r) arranged-is
+      ∙ ap (halved (levelOf (length d)) r) (arranged-in-order (levelOf (length d)) (level-le (length d)) d size)
       ∙ halved-is (levelOf (length d)) r d size
       ∙ halving-values (levelOf (length d)) r d size (ready .symbols) half
       ∙ ap (λ (n : ℕ). values r n d) (sym size)

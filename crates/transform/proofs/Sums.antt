@@ -1,18 +1,18 @@
 -- Halving gives the plain sums, which are the values at the powers of the root: once, by induction over the size.
 -- Assumes nothing.
-use mathlib.Core.Path.{_≡_, refl, sym, ap, ap₂, _∙_}
+use mathlib.Core.Path.{_≡_, sym, ap, ap₂, _∙_}
 use mathlib.Core.List.{List, [], _∷_, _++_}
-use Prim.Native.Nat.{ℕ, zero, suc, _+_, _*_, _^_, _/_, _%_, _<_}
-use native.Mathlib.Nat.{mul-comm, mod-eq-of-lt, pow-zero, pow-succ'}
+use Prim.Native.Nat.{ℕ, zero, suc, _+_, _*_, _^_, _%_, _<_}
+use native.Mathlib.Nat.{mul-comm, mod-eq-of-lt, pow-succ'}
 use native.Mathlib.Omega.{arith}
 use lib.Pow.{pow-add}
 use lib.ListN.{length, getD}
 use Rattle.field.specs.Congruence.{_≈_}
 use Rattle.field.specs.Field.{sum, difference, product, power}
 use Rattle.field.specs.Symbol.{Symbols}
-use Rattle.field.proofs.Congruence.{≈-refl, ≈-of, ≈-sym, _∘≈_, _+≈_, _·≈_, mul-≈, pow-≈, mod-≈, comb, wrap, reduced}
+use Rattle.field.proofs.Congruence.{≈-refl, ≈-of, ≈-sym, _∘≈_, _+≈_, _·≈_, mul-≈, pow-≈, mod-≈, comb, wrap}
 use Rattle.field.proofs.Powers.{pow-times, pow-two, mul-pow}
-use Rattle.field.proofs.Ring.{product-≈, power-≈, sum-lt, difference-lt}
+use Rattle.field.proofs.Ring.{product-≈, power-≈}
 use Rattle.poly.specs.Parts.{evens, odds}
 use Rattle.poly.specs.Sum.{total}
 use Rattle.poly.specs.Tab.{tab}

@@ -2,20 +2,17 @@
 -- Assumes nothing.
 use mathlib.Core.Path.{_≡_, refl, sym, ap, subst, _∙_}
 use mathlib.Core.List.{List}
-use Prim.Native.Nat.{ℕ, zero, suc, _+_, _*_, _^_, _%_, _<_, _≤_}
-use native.Mathlib.Nat.{mul-comm, pow-suc, mod-eq-of-lt, le-trans, not-suc-le-zero}
+use Prim.Native.Nat.{ℕ, zero, suc, _*_, _^_, _<_, _≤_}
+use native.Mathlib.Nat.{mul-comm, pow-suc, mod-eq-of-lt, not-suc-le-zero}
 use native.Mathlib.Omega.{arith}
-use lib.Dec.{lit<, lit≤}
 use lib.ListN.{length, getD}
 use lib.Pow.{pow-pos, pow-mono}
-use lib.Seq.{ext-getD}
 use Rattle.field.specs.Congruence.{_≈_}
 use Rattle.field.specs.Field.{product, inverse}
 use Rattle.field.specs.Points.{rootOf}
 use Rattle.field.specs.Roots.{root}
 use Rattle.field.specs.Size.{levelOf, sizeOf}
-use Rattle.field.specs.Symbol.{Symbols}
-use Rattle.field.proofs.Congruence.{≈-refl, ≈-of, ≈-sym, _∘≈_, _+≈_, _·≈_, mul-≈, pow-≈, mod-≈, comb, wrap, reduced}
+use Rattle.field.proofs.Congruence.{≈-refl, ≈-of, ≈-sym, _∘≈_, _+≈_, _·≈_, mul-≈, pow-≈, mod-≈, comb, reduced}
 use Rattle.field.proofs.Fermat.{inverse-≈}
 use Rattle.field.proofs.Powers.{mul-pow, one-pow}
 use Rattle.field.proofs.Ring.{product-≈, product-lt}
@@ -25,7 +22,7 @@ use Rattle.poly.specs.Sum.{total}
 use Rattle.poly.specs.Tab.{tab}
 use Rattle.poly.specs.Value.{value}
 use Rattle.poly.proofs.Sum.{total-≈, total-scale}
-use Rattle.poly.proofs.Tab.{tab-length, tab-at, tab-ext, tab-getD}
+use Rattle.poly.proofs.Tab.{tab-length, tab-ext, tab-getD}
 use Rattle.poly.proofs.Value.{plain-sum, value-tab}
 use Rattle.transform.specs.Ready.{Ready}
 use Rattle.transform.specs.Transform.{transformOf, inverseOf}

@@ -3,3 +3,4 @@ pub mod Halving
 pub mod Order
 pub mod Ready
 pub mod Calls
+pub mod Theorems

@@ -1,0 +1,13 @@
+-- The proofs of specs/Theorems.antt, each under its name there in small letters.
+-- Assumes nothing.
+use mathlib.Core.Path.{sym, _∙_}
+use Rattle.sulmirejo.specs.Theorems.{PointSettled, TransformSettled, InverseSettled}
+
+pub point-settled : PointSettled
+point-settled n i before r s p q = p ∙ sym q
+
+pub transform-settled : TransformSettled
+transform-settled list work r s p q = p ∙ sym q
+
+pub inverse-settled : InverseSettled
+inverse-settled list work r s p q = p ∙ sym q

@@ -1,0 +1,61 @@
+// The face: the functions that C calls. Each hands its arguments to a proved function and turns the answer into number and place; nothing else
+// is done here.
+use field::Outcome;
+use field::PointAnswer;
+use field::Position;
+ghost use mathlib.Core.Path.{_≡_};
+ghost use Rattle.field.specs.Points.{pointAnswer};
+ghost use Rattle.field.specs.Refusals.{toldOutcome};
+ghost use Rattle.transform.specs.Calls.{transformLeaves, inverseLeaves};
+ghost use Rattle.sulmirejo.specs.Face.{Returned, returned, PointReturned, pointReturned, ListsReturned, listsReturned};
+
+// 0 or the refusal's number; the place goes to number.
+fn tell(outcome: Outcome, number: &mut usize) -> u32
+    ensures { λ r. ⌜ _≡_ {A = Returned} (record { status = r; number = now (number .exit) }) (returned (toldOutcome outcome)) ⌝ }
+{
+    match outcome {
+        Outcome::Done => {
+            *number = 0;
+            0
+        }
+        Outcome::Refused(refusal) => {
+            *number = field::place(refusal);
+            field::number(refusal)
+        }
+    }
+}
+
+#[no_mangle]
+pub extern "C" fn sulmirejo_point(
+    n: usize,
+    position: usize,
+    point: &mut u32,
+    number: &mut usize,
+) -> u32
+    ensures { λ r. ⌜ _≡_ {A = PointReturned} (record { status = r; number = now (number .exit); point = now (point .exit) }) (pointReturned (pointAnswer n position) (now (point .entry))) ⌝ }
+{
+    match field::point_at(n, Position(position)) {
+        PointAnswer::Point(found) => {
+            let value = found.0;
+            *point = value;
+            tell(Outcome::Done, number)
+        }
+        PointAnswer::Refused(refusal) => tell(Outcome::Refused(refusal), number),
+    }
+}
+
+#[no_mangle]
+pub extern "C" fn sulmirejo_transform(list: &mut [u32], work: &mut [u32], number: &mut usize) -> u32
+    ensures { λ r. ⌜ _≡_ {A = ListsReturned} (record { status = r; number = now (number .exit); list = now (list .exit); work = now (work .exit) }) (listsReturned (transformLeaves (now (list .entry)) (now (work .entry)))) ⌝ }
+{
+    let outcome = transform::transform(list, work);
+    tell(outcome, number)
+}
+
+#[no_mangle]
+pub extern "C" fn sulmirejo_inverse(list: &mut [u32], work: &mut [u32], number: &mut usize) -> u32
+    ensures { λ r. ⌜ _≡_ {A = ListsReturned} (record { status = r; number = now (number .exit); list = now (list .exit); work = now (work .exit) }) (listsReturned (inverseLeaves (now (list .entry)) (now (work .entry)))) ⌝ }
+{
+    let outcome = transform::inverse(list, work);
+    tell(outcome, number)
+}

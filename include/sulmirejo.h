@@ -1,0 +1,75 @@
+/* Sulmirejo: an erasure coder over the integers modulo 65537, for content that is broadcast one way.
+ *
+ * This file is the manual. The functions are in libsulmirejo.a (`rt staticlib sulmirejo`), for x86-64 Linux. Each is proved to do what is
+ * written here, for every argument that the types allow, as long as the caller keeps four rules that no function can test:
+ *   - a pointer is not null, is aligned for its type, and points to as many elements as the count that follows it says (to one where no
+ *     count follows);
+ *   - those elements may be read, and written where the pointer is not to const;
+ *   - they have values: memory that was never written is set first, to anything;
+ *   - buffers of one call do not overlap, and nobody else uses them during the call.
+ * There is no state: calls on different buffers may run at the same time in different threads. Nothing is allocated, and no call fails
+ * but by a refusal.
+ *
+ * A symbol is a whole number from 0 to 65536, kept in a uint32_t. Counts are counts of elements and not of bytes.
+ *
+ * Every call returns 0 (SULMIREJO_OK), or the number of the refusal. Its last argument, `number`, is always written: on a refusal with its
+ * place, on success with 0. The checks of a call are made in the order of their numbers, each over the whole list before the next, and the
+ * first that fails is the answer.
+ *
+ *     uint32_t list[4] = {1, 2, 0, 0}, work[4] = {0};
+ *     size_t number;
+ *     uint32_t status = sulmirejo_transform(list, 4, work, 4, &number);
+ *     if (status == SULMIREJO_VALUE)
+ *         printf("list[%zu] is above 65536\n", number);
+ *     else if (status == SULMIREJO_OK)
+ *         printf("%u %u %u %u\n", list[0], list[1], list[2], list[3]);    3 65026 65536 513
+ */
+#ifndef SULMIREJO_H
+#define SULMIREJO_H
+
+#include <stddef.h>
+#include <stdint.h>
+
+#ifdef __cplusplus
+extern "C" {
+#endif
+
+/* The refusals. Those that no function below gives belong to the parts of the coder that are to come. */
+#define SULMIREJO_OK 0u
+#define SULMIREJO_SHAPE 1u    /* a size that cannot be */
+#define SULMIREJO_LENGTH 2u   /* lists whose lengths do not fit */
+#define SULMIREJO_ROOM 3u     /* output or working space too short */
+#define SULMIREJO_FEW 4u      /* fewer symbols than the message has */
+#define SULMIREJO_POSITION 5u /* a position outside the code word */
+#define SULMIREJO_REPEAT 6u   /* a position given twice */
+#define SULMIREJO_VALUE 7u    /* a number above 65536 */
+#define SULMIREJO_DISAGREE 8u /* no message fits */
+#define SULMIREJO_WORD 9u     /* a decoded symbol is no word of two bytes */
+#define SULMIREJO_TAIL 10u    /* padding that is not zero */
+#define SULMIREJO_FORM 11u    /* any other breach of the layout */
+
+/* The evaluation point of a position in a code word of length n: r^position modulo 65537, r being the root of order N and N the smallest
+ * power of two that is at least n.
+ *
+ * Refusals: SHAPE for n = 0 and for n above 4096; POSITION, place 0, for a position of n or more.
+ * Afterwards: *point holds the point on success, and is as it was on a refusal. */
+uint32_t sulmirejo_point(size_t n, size_t position, uint32_t *point, size_t *number);
+
+/* The transform of N numbers a_0 .. a_(N-1), r being the root of order N: A_j = sum over i of a_i * r^(i*j) modulo 65537, written in place
+ * of the list. N is list_len. The working space is N numbers, whatever they held.
+ *
+ * Refusals: SHAPE where list_len is 0, above 4096 or no power of two; ROOM where work_len is below list_len; VALUE where a number of the
+ * list is above 65536, with the index of the first such number as its place.
+ * Afterwards: on success the list holds A_0 .. A_(N-1), the first N numbers of the working space are zero and the later ones as they were.
+ * On a refusal list and working space are as they were. */
+uint32_t sulmirejo_transform(uint32_t *list, size_t list_len, uint32_t *work, size_t work_len, size_t *number);
+
+/* The inverse of it: a_j = (1/N) * sum over i of A_i * r^(-i*j) modulo 65537, written in place of the list. Each of the two undoes the
+ * other. Working space, refusals and what the buffers hold afterwards are the transform's. */
+uint32_t sulmirejo_inverse(uint32_t *list, size_t list_len, uint32_t *work, size_t work_len, size_t *number);
+
+#ifdef __cplusplus
+}
+#endif
+
+#endif

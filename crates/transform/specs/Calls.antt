@@ -1,5 +1,5 @@
 -- What a caller of the transform and of its inverse is answered, and what the two lent lists hold afterwards.
-use mathlib.Core.Bool.{Bool, _||_, not}
+use mathlib.Core.Bool.{Bool, true, false, _||_, not}
 use mathlib.Core.List.{List, [], _++_}
 use Prim.Native.Nat.{ℕ}
 use lib.Dec.{ltb, eqb}
@@ -31,6 +31,11 @@ abbrev pub leaves : Answer → (List ℕ → List ℕ) → List ℕ → List ℕ
 leaves (refusal n i) f list work = record { answer = refusal n i; list = list; work = work }
 leaves (result vs) f list work =
     record { answer = result vs; list = f list; work = replicate (length list) 0 ++ drop (length list) work }
+
+-- the transform, or back by the inverse
+abbrev pub oneOf : Bool → List ℕ → List ℕ
+oneOf false = transformOf
+oneOf true = inverseOf
 
 abbrev pub transformLeaves : List ℕ → List ℕ → Leaves
 transformLeaves list work = leaves (judged list (length work)) transformOf list work

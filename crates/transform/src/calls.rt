@@ -2,17 +2,30 @@
 use crate::inner;
 use field::Outcome;
 ghost use mathlib.Core.Path.{_≡_};
+ghost use lib.ListN.{length};
 ghost use Rattle.field.specs.Refusals.{toldOutcome};
-ghost use Rattle.transform.specs.Calls.{Leaves, transformLeaves, inverseLeaves};
+ghost use Rattle.transform.specs.Calls.{Leaves, leaves, judged, oneOf, transformLeaves, inverseLeaves};
+ghost use Rattle.transform.specs.Ready.{Ready};
 
-// A_j = sum over i of a_i · r^(ij), in place of the list. The working space is as long as the list, and zero afterwards.
-pub fn transform(list: &mut [u32], work: &mut [u32]) -> Outcome
-    ensures { λ r. ⌜ _≡_ {A = Leaves} (record { answer = toldOutcome r; list = now (list .exit); work = now (work .exit) }) (transformLeaves (now (list .entry)) (now (work .entry))) ⌝ }
+fn one_of(back: bool, list: &mut [u32])
+    requires { ⌜ Ready (now list) ⌝ }
+    ensures { λ _. ⌜ now (list .exit) ≡ oneOf back (now (list .entry)) ⌝ }
+{
+    if back {
+        inner::inverse(list);
+        return;
+    }
+    inner::transform(list);
+}
+
+// Both calls, back being the inverse.
+fn call(back: bool, list: &mut [u32], work: &mut [u32]) -> Outcome
+    ensures { λ r. ⌜ _≡_ {A = Leaves} (record { answer = toldOutcome r; list = now (list .exit); work = now (work .exit) }) (leaves (judged (now (list .entry)) (length (now (work .entry)))) (oneOf back) (now (list .entry)) (now (work .entry))) ⌝ }
 {
     let size = list.len();
     match inner::judge(list, work.len()) {
         Outcome::Done => {
-            inner::transform(list);
+            one_of(back, list);
             inner::clear(&mut work[0..size]);
             Outcome::Done
         }
@@ -20,17 +33,16 @@ pub fn transform(list: &mut [u32], work: &mut [u32]) -> Outcome
     }
 }
 
+// A_j = sum over i of a_i · r^(ij), in place of the list. The working space is as long as the list, and zero afterwards.
+pub fn transform(list: &mut [u32], work: &mut [u32]) -> Outcome
+    ensures { λ r. ⌜ _≡_ {A = Leaves} (record { answer = toldOutcome r; list = now (list .exit); work = now (work .exit) }) (transformLeaves (now (list .entry)) (now (work .entry))) ⌝ }
+{
+    call(false, list, work)
+}
+
 // a_j = (1/N) · sum over i of A_i · r^(-ij), in place of the list. The working space is as long as the list, and zero afterwards.
 pub fn inverse(list: &mut [u32], work: &mut [u32]) -> Outcome
     ensures { λ r. ⌜ _≡_ {A = Leaves} (record { answer = toldOutcome r; list = now (list .exit); work = now (work .exit) }) (inverseLeaves (now (list .entry)) (now (work .entry))) ⌝ }
 {
-    let size = list.len();
-    match inner::judge(list, work.len()) {
-        Outcome::Done => {
-            inner::inverse(list);
-            inner::clear(&mut work[0..size]);
-            Outcome::Done
-        }
-        Outcome::Refused(refusal) => Outcome::Refused(refusal),
-    }
+    call(true, list, work)
 }

@@ -75,10 +75,13 @@ fn join(list: &mut [u32], root: u32)
     let mut turn: u32 = 1;
     let mut j = 0;
     while j < half {
+        let behind = half + j;
         let even = list[j];
-        let odd = product(turn, list[half + j]);
-        list[j] = sum(even, odd);
-        list[half + j] = difference(even, odd);
+        let odd = product(turn, list[behind]);
+        let first = sum(even, odd);
+        let second = difference(even, odd);
+        list[j] = first;
+        list[behind] = second;
         turn = product(turn, root);
         j += 1;
     }

@@ -3,11 +3,11 @@
 use mathlib.Core.Path.{_≡_, refl, sym, ap, ap₂, subst, _∙_}
 use mathlib.Core.List.{List, _++_, append-nil}
 use Prim.Native.Nat.{ℕ, zero, suc, _+_, _-_, _^_, _/_, _%_, _<_, _≤_}
-use native.Mathlib.Decide.{decLt}
+use native.Mathlib.Decide.{decLt, ℕ-discrete}
 use native.Mathlib.Omega.{arith}
-use lib.ListN.{length, getD, take, drop, length-append, length-drop, drop-of-length-le, List·getD-append}
+use lib.ListN.{length, getD, take, drop, set, length-set, length-append, length-drop, drop-of-length-le, List·getD-append}
 use lib.Pow.{pow-pos}
-use lib.Seq.{length-take-le, take-at, drop-at, take-all, getD-take, getD-drop, getD-append-add}
+use lib.Seq.{getD-set-same, getD-set-other, length-take-le, take-at, drop-at, take-all, getD-take, getD-drop, getD-append-add}
 use Rattle.field.specs.Field.{sum, difference, product}
 use Rattle.field.specs.Size.{levelOf, sizeOf}
 use Rattle.field.specs.Symbol.{Symbols}
@@ -57,6 +57,13 @@ append-symbols s t hs ht i h =
           subst (λ (v : ℕ). v < 65537)
           (sym (ap (λ (n : ℕ). getD (s ++ t) n 0) {x = i} {y = length s + (i - length s)} (omega arith) ∙ getD-append-add s t (i - length s) 0))
           (ht (i - length s) (omega (arith, length-append s t)))
+    ]
+
+pub set-symbols : (s : List ℕ) (i v : ℕ) → Symbols s → v < 65537 → Symbols (set s i v)
+set-symbols s i v small new x h =
+    elim (ℕ-discrete x i) [
+      | yes e ↦ rw (e, getD-set-same s i v 0 (omega (arith, length-set s i v))) new
+      | no other ↦ rw (getD-set-other s i x v 0 other) (small x (omega (arith, length-set s i v)))
     ]
 
 tab-symbols : (n : ℕ) (f : ℕ → ℕ) → ((i : ℕ) → f i < 65537) → Symbols (tab n f)

@@ -126,9 +126,10 @@ pub fn inverse(list: &mut [u32])
     ensures { λ _. ⌜ now (list .exit) ≡ inverseOf (now (list .entry)) ⌝ }
 {
     let root = root(level(list.len()));
+    let back = field::inner::inverse(root);
     let part = field::inner::inverse(list.len() as u32);
     arrange(list);
-    halve(list, field::inner::inverse(root));
+    halve(list, back);
     scale(list, part);
 }
 

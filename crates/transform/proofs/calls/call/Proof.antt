@@ -3,6 +3,7 @@
 -- Assumes nothing.
 use mathlib.Core.Path.{sym, ap, _∙_}
 use Prim.Native.Nat.{ℕ, _-_}
+use native.Mathlib.Omega.{arith}
 use borrow.Author.Needs.{needs}
 use lib.ListN.{length}
 use lib.Seq.{length-front}
@@ -21,7 +22,7 @@ call-spec =
     (λ c κs. judged-good _ _ (sym (c .before .before .before .judge .ensures) ∙ ap toldOutcome (c .before .enum-told .given .1)) .ready)
     (λ c. search needs)
     (λ c. search needs)
-    (λ c. judged-good _ _ (sym (c .before .before .before .before .before .before .judge .ensures) ∙ ap toldOutcome (c .before .before .before .before .enum-told .given .1)) .enough)
+    (λ c. omega (arith, judged-good _ _ (sym (c .before .before .before .before .before .before .judge .ensures) ∙ ap toldOutcome (c .before .before .before .before .enum-told .given .1)) .enough))
     (λ c κs. search needs)
     (λ c. search needs)
     (λ c. search needs)

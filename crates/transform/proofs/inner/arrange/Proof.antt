@@ -49,7 +49,10 @@ arrange-spec =
     Inv-loop
     μ-loop
     (λ c. record { some = search needs; long = search needs; reverse = sym (reversed-zero _); arranging = arranging-none _ _ })
-    (λ c κs. let l = c .before .before .loop in below _ (c .before .before .before .before .pre) (l .list) (l .i) (l .place) (l .inv) (c .before .loop-test .taken))
+    (λ c κs.
+    let l = c .before .before .loop in
+    let inside = below _ (c .before .before .before .before .pre) (l .list) (l .i) (l .place) (l .inv) (c .before .loop-test .taken) in
+    (omega arith, omega arith))
     (λ c κs. search needs)
     (λ c. omega (arith, c .before .before .before .before .before .before .loop .inv .long))
     (λ c. omega (arith, c .before .before .before .before .before .before .loop .inv .long))

@@ -8,9 +8,10 @@ use native.Mathlib.Omega.{arith}
 use borrow.Author.Needs.{needs}
 use lib.ListN.{length, getD, take, drop, set, length-set}
 use Rattle.field.specs.Field.{sum, difference, product, power}
-use Rattle.field.specs.Symbol.{Symbols}
+use Rattle.field.specs.Symbol.{IsSymbol, Symbols}
 use Rattle.field.proofs.Ring.{power-zero, power-step}
 use Rattle.transform.specs.Halving.{turned, joined}
+use Rattle.transform.proofs.Halves.{set-symbols}
 use Rattle.transform.proofs.Joining.{joining, joining-none, joining-even, joining-odd, joining-more, joining-all}
 use Rattle.transform.proofs.inner.join.Statement.{statement}
 use Rattle.transform.proofs.inner.join.Tie as tie
@@ -19,6 +20,7 @@ use Rattle.transform.proofs.inner.join.Tie as tie
 record Turn (d : List ℕ) (half root : ℕ) (list : List ℕ) (turn j : ℕ) : Type 0 where
   some : j ≤ half
   long : length list ≡ length d
+  small : Symbols list
   turns : turn ≡ power root j
   is : list ≡ joining d half root j
 
@@ -40,18 +42,16 @@ module _ (d : List ℕ) (root : ℕ) (pre : (length d % 2 ≡ 0) × Symbols d) w
     even : getD list j 0 ≡ getD d j 0
     even = joining-even d half root whole j list (t .is) h
 
-    even-symbol : getD list j 0 < 65537
-    even-symbol = rw even (pre .1 j (omega (arith, whole)))
-
     -- a pair joined
-    more : (odd v w next : ℕ) → odd ≡ product turn (getD list (half + j) 0) → v ≡ sum (getD list j 0) odd
-        → w ≡ difference (getD list j 0) odd → next ≡ product turn root → Turn d half root (set (set list j v) (half + j) w) next (j + 1)
+    more : (odd v w next : ℕ) → odd ≡ product turn (getD list (half + j) 0) → IsSymbol v (sum (getD list j 0) odd)
+        → IsSymbol w (difference (getD list j 0) odd) → next ≡ product turn root → Turn d half root (set (set list j v) (half + j) w) next (j + 1)
     more odd v w next o s f n =
         record {
           some = omega arith;
           long = simp length-set (t .long);
+          small = set-symbols (set list j v) (half + j) w (set-symbols list j v (t .small) (s .small)) (f .small);
           turns = n ∙ ap (λ (x : ℕ). product x root) (t .turns) ∙ sym (power-step root j) ∙ ap (power root) (sym (add-one j));
-          is = joining-more d half root whole j list (t .is) h v w (s ∙ ap₂ sum even turned-is) (f ∙ ap₂ difference even turned-is);
+          is = joining-more d half root whole j list (t .is) h v w (s .is ∙ ap₂ sum even turned-is) (f .is ∙ ap₂ difference even turned-is);
         }
       where
         turned-is : odd ≡ turned root (drop half d) j
@@ -68,15 +68,15 @@ join-spec =
     (tie.spec
     Inv-loop
     μ-loop
-    (λ c. record { some = search needs; long = search needs; turns = sym (power-zero _); is = joining-none _ _ _ })
+    (λ c. record { some = search needs; long = search needs; small = c .before .pre .1; turns = sym (power-zero _); is = joining-none _ _ _ })
     (λ c. search needs)
     (λ c. search needs)
     (λ c. omega (arith, c .before .before .loop .inv .long))
     (λ c. search needs)
     (λ c. omega (arith, c .before .before .before .loop .inv .long))
     (λ c κs. search needs)
-    (λ c κs. let l = c .before .before .before .before .loop in (even-symbol _ _ (c .before .before .before .before .before .before .pre) (l .list) (l .turn) (l .j) (l .inv) (c .before .before .before .loop-test .taken), c .product .ensures .small))
-    (λ c κs. let l = c .before .before .before .before .before .loop in (even-symbol _ _ (c .before .before .before .before .before .before .before .pre) (l .list) (l .turn) (l .j) (l .inv) (c .before .before .before .before .loop-test .taken), c .before .product .ensures .small))
+    (λ c κs. let l = c .before .before .before .before .loop in (l .inv .small _ (omega (arith, l .inv .long)), c .product .ensures .small))
+    (λ c κs. let l = c .before .before .before .before .before .loop in (l .inv .small _ (omega (arith, l .inv .long)), c .before .product .ensures .small))
     (λ c. search needs)
     (λ c. omega (arith, c .before .before .before .before .before .before .loop .inv .long))
     (λ c. search needs)
@@ -86,7 +86,7 @@ join-spec =
     (λ c. search needs)
     (λ c.
     let l = c .before .before .before .before .before .before .before .loop in
-    more _ _ (c .before .before .before .before .before .before .before .before .before .pre) (l .list) (l .turn) (l .j) (l .inv) (c .before .before .before .before .before .before .loop-test .taken) _ _ _ _ (c .before .before .before .product .ensures .is) (c .before .before .sum .ensures .is) (c .before .difference .ensures .is) (c .product2 .ensures .is))
+    more _ _ (c .before .before .before .before .before .before .before .before .before .pre) (l .list) (l .turn) (l .j) (l .inv) (c .before .before .before .before .before .before .loop-test .taken) _ _ _ _ (c .before .before .before .product .ensures .is) (c .before .before .sum .ensures) (c .before .difference .ensures) (c .product2 .ensures .is))
     (λ c. c .before .loop .inv .long)
     (λ c.
     let l = c .before .loop in

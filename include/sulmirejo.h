@@ -2,27 +2,28 @@
  *
  * This file is the manual. The functions are in libsulmirejo.a (`rt staticlib sulmirejo`), for x86-64 Linux. Each is proved to do what is
  * written here, for every argument that the types allow, as long as the caller keeps four rules that no function can test:
- *   - a pointer is not null, is aligned for its type, and points to as many elements as the count that follows it says (to one where no
- *     count follows);
- *   - those elements may be read, and written where the pointer is not to const;
+ *   - a pointer is not null, is aligned for its type, and points to as many elements as the count behind it says, to one if there is none;
+ *   - those elements may be read and written;
  *   - they have values: memory that was never written is set first, to anything;
  *   - buffers of one call do not overlap, and nobody else uses them during the call.
- * There is no state: calls on different buffers may run at the same time in different threads. Nothing is allocated, and no call fails
- * but by a refusal.
+ * There is no state: calls on different buffers may run at the same time in different threads. Nothing is allocated. No call fails but by a
+ * refusal, given the stack that it needs: the deepest call is a small function that calls itself thirteen deep.
  *
  * A symbol is a whole number from 0 to 65536, kept in a uint32_t. Counts are counts of elements and not of bytes.
  *
  * Every call returns 0 (SULMIREJO_OK), or the number of the refusal. Its last argument, `number`, is always written: on a refusal with its
- * place, on success with 0. The checks of a call are made in the order of their numbers, each over the whole list before the next, and the
- * first that fails is the answer.
+ * place, which is 0 unless a place is stated below, and on success with 0. The checks of a call are made in the order of their numbers, each
+ * over the whole list before the next, and the first that fails is the answer.
  *
  *     uint32_t list[4] = {1, 2, 0, 0}, work[4] = {0};
- *     size_t number;
+ *     size_t number = 0;
  *     uint32_t status = sulmirejo_transform(list, 4, work, 4, &number);
  *     if (status == SULMIREJO_VALUE)
  *         printf("list[%zu] is above 65536\n", number);
- *     else if (status == SULMIREJO_OK)
- *         printf("%u %u %u %u\n", list[0], list[1], list[2], list[3]);    3 65026 65536 513
+ *     else if (status != SULMIREJO_OK)
+ *         printf("refused: %u\n", (unsigned)status);
+ *     else
+ *         printf("%u %u %u %u\n", list[0], list[1], list[2], list[3]); // prints 3 65026 65536 513
  */
 #ifndef SULMIREJO_H
 #define SULMIREJO_H
@@ -48,15 +49,15 @@ extern "C" {
 #define SULMIREJO_TAIL 10u    /* padding that is not zero */
 #define SULMIREJO_FORM 11u    /* any other breach of the layout */
 
-/* The evaluation point of a position in a code word of length n: r^position modulo 65537, r being the root of order N and N the smallest
- * power of two that is at least n.
+/* The evaluation point of a position in a code word of length n: r^position modulo 65537, where N is the smallest power of two that is at
+ * least n, and r the root of order N, which is 3^(65536/N) modulo 65537.
  *
  * Refusals: SHAPE for n = 0 and for n above 4096; POSITION, place 0, for a position of n or more.
  * Afterwards: *point holds the point on success, and is as it was on a refusal. */
 uint32_t sulmirejo_point(size_t n, size_t position, uint32_t *point, size_t *number);
 
-/* The transform of N numbers a_0 .. a_(N-1), r being the root of order N: A_j = sum over i of a_i * r^(i*j) modulo 65537, written in place
- * of the list. N is list_len. The working space is N numbers, whatever they held.
+/* The transform of N = list_len numbers a_0 .. a_(N-1): A_j = sum over i of a_i * r^(i*j) modulo 65537, written in place of the list, where r
+ * is the root of order N, 3^(65536/N) modulo 65537. The working space is N numbers, whatever they held.
  *
  * Refusals: SHAPE where list_len is 0, above 4096 or no power of two; ROOM where work_len is below list_len; VALUE where a number of the
  * list is above 65536, with the index of the first such number as its place.

@@ -1,6 +1,6 @@
 /* The transform, its inverse and the points, called from C and held against the plain sums, which are worked out here by code of its own: no
  * table of roots and no halving. Guard cells stand round every buffer, and every lent cell holds junk before each call. */
-#include "../../include/sulmirejo.h"
+#include "sulmirejo.h"
 
 #include <stdio.h>
 #include <stdlib.h>
@@ -103,20 +103,37 @@ static void remember(struct lent *buffer)
 /* All cells but `count` from the front of the lent part are as they were. */
 static void expect_untouched_after(const struct lent *buffer, size_t count, const char *what)
 {
-    for (size_t i = 0; i < GUARD + TWICE + GUARD; i++)
-        if (i < GUARD || GUARD + count <= i)
-            expect(buffer->cells[i] == buffer->before[i], what, count, i);
+    size_t from = GUARD + count, behind = sizeof buffer->cells - from * sizeof *buffer->cells;
+    expect(memcmp(buffer->cells, buffer->before, GUARD * sizeof *buffer->cells) == 0, what, count, 0);
+    expect(memcmp(buffer->cells + from, buffer->before + from, behind) == 0, what, count, from);
+}
+
+/* The number that a call writes, with guards. */
+static size_t numbers[3];
+
+static size_t *lend_number(void)
+{
+    numbers[0] = 77;
+    numbers[1] = 78;
+    numbers[2] = 79;
+    return numbers + 1;
+}
+
+static void expect_number(size_t place, size_t size)
+{
+    expect(numbers[1] == place, "number", size, numbers[1]);
+    expect(numbers[0] == 77 && numbers[2] == 79, "guards of the number", size, 0);
 }
 
 typedef uint32_t call(uint32_t *, size_t, uint32_t *, size_t, size_t *);
 
 static void expect_result(call *function, const char *name, size_t size, size_t room, const uint32_t *expected)
 {
-    size_t number = 77;
+    fill_with_junk(&work);
     remember(&list);
     remember(&work);
-    expect(function(lend(&list), size, lend(&work), room, &number) == SULMIREJO_OK, name, size, 0);
-    expect(number == 0, "number on success", size, 0);
+    expect(function(lend(&list), size, lend(&work), room, lend_number()) == SULMIREJO_OK, name, size, 0);
+    expect_number(0, size);
     for (size_t i = 0; i < size; i++) {
         expect(lend(&list)[i] == expected[i], name, size, i);
         expect(lend(&work)[i] == 0, "working space zero", size, i);
@@ -129,47 +146,42 @@ static void expect_refusal(size_t size, size_t room, uint32_t refusal, size_t pl
 {
     call *both[2] = {sulmirejo_transform, sulmirejo_inverse};
     for (int i = 0; i < 2; i++) {
-        size_t number = 77;
         remember(&list);
         remember(&work);
-        expect(both[i](lend(&list), size, lend(&work), room, &number) == refusal, "refusal", size, room);
-        expect(number == place, "place", size, number);
+        expect(both[i](lend(&list), size, lend(&work), room, lend_number()) == refusal, "refusal", size, room);
+        expect_number(place, size);
         expect_untouched_after(&list, 0, "list untouched on a refusal");
         expect_untouched_after(&work, 0, "working space untouched on a refusal");
     }
 }
 
 /* There by the transform and back by the inverse, and the inverse first, against the plain sums. */
-static void try_list(const uint32_t *numbers, size_t size, size_t room, uint32_t root, uint32_t root_over, uint32_t part)
+static void try_list(const uint32_t *symbols, size_t size, size_t room, uint32_t root, uint32_t root_over, uint32_t part)
 {
     static uint32_t sums[LONGEST];
     fill_with_junk(&list);
-    fill_with_junk(&work);
-    memcpy(lend(&list), numbers, size * sizeof *numbers);
-    plain_sums(numbers, size, root, 1, sums);
+    memcpy(lend(&list), symbols, size * sizeof *symbols);
+    plain_sums(symbols, size, root, 1, sums);
     expect_result(sulmirejo_transform, "transform", size, room, sums);
-    fill_with_junk(&work);
-    expect_result(sulmirejo_inverse, "inverse of the transform", size, room, numbers);
-    fill_with_junk(&work);
-    plain_sums(numbers, size, root_over, part, sums);
+    expect_result(sulmirejo_inverse, "inverse of the transform", size, room, symbols);
+    plain_sums(symbols, size, root_over, part, sums);
     expect_result(sulmirejo_inverse, "inverse", size, room, sums);
-    fill_with_junk(&work);
-    expect_result(sulmirejo_transform, "transform of the inverse", size, room, numbers);
+    expect_result(sulmirejo_transform, "transform of the inverse", size, room, symbols);
 }
 
 static void try_size(size_t size)
 {
-    static uint32_t numbers[LONGEST];
+    static uint32_t symbols[LONGEST];
     uint32_t root = root_of_order(size), root_over = to_the(root, size - 1), part = one_over(size);
     for (size_t i = 0; i < size; i++)
-        numbers[i] = junk() % P;
-    try_list(numbers, size, size, root, root_over, part);
+        symbols[i] = junk() % P;
+    try_list(symbols, size, size, root, root_over, part);
     for (size_t i = 0; i < size; i++)
-        numbers[i] = 65536;
-    try_list(numbers, size, size + 5, root, root_over, part);
-    memset(numbers, 0, sizeof numbers);
-    numbers[size - 1] = 65536;
-    try_list(numbers, size, TWICE, root, root_over, part);
+        symbols[i] = 65536;
+    try_list(symbols, size, size + 5, root, root_over, part);
+    memset(symbols, 0, sizeof symbols);
+    symbols[size - 1] = 65536;
+    try_list(symbols, size, TWICE, root, root_over, part);
 }
 
 static void good_list(size_t size)
@@ -180,19 +192,22 @@ static void good_list(size_t size)
         lend(&list)[i] = junk() % P;
 }
 
-/* Every length up to 8192 but the powers of two up to 4096 is SHAPE, whatever else is wrong. */
+/* Every length up to 8192 but the powers of two up to 4096 is SHAPE, also without room and with a wrong value. */
 static void try_shapes(void)
 {
+    size_t power = 1;
     good_list(TWICE);
     for (size_t size = 0; size <= TWICE; size++) {
-        int power = size != 0 && (size & (size - 1)) == 0;
-        if ((power && size <= LONGEST) || (3 < size && size < 4090 && size % 97))
-            continue;
-        expect_refusal(size, TWICE, SULMIREJO_SHAPE, 0);
+        if (size == power && size <= LONGEST)
+            power *= 2;
+        else {
+            expect_refusal(size, TWICE, SULMIREJO_SHAPE, 0);
+            expect_refusal(size, 0, SULMIREJO_SHAPE, 0);
+        }
     }
     lend(&list)[0] = 65537;
     expect_refusal(3, 0, SULMIREJO_SHAPE, 0);
-    expect_refusal(4097, 0, SULMIREJO_SHAPE, 0);
+    expect_refusal(TWICE, 0, SULMIREJO_SHAPE, 0);
 }
 
 static void try_refusals(size_t size)
@@ -226,10 +241,9 @@ static void try_worked_numbers(void)
 static void expect_point(size_t n, size_t position, uint32_t status, size_t place, uint32_t value)
 {
     uint32_t cells[3] = {junk(), junk(), junk()}, before[3];
-    size_t numbers[3] = {77, 78, 79};
     memcpy(before, cells, sizeof cells);
-    expect(sulmirejo_point(n, position, cells + 1, numbers + 1) == status, "point", n, position);
-    expect(numbers[0] == 77 && numbers[1] == place && numbers[2] == 79, "number of a point", n, position);
+    expect(sulmirejo_point(n, position, cells + 1, lend_number()) == status, "point", n, position);
+    expect_number(place, n);
     expect(cells[0] == before[0] && cells[2] == before[2], "guards of a point", n, position);
     expect(cells[1] == (status == SULMIREJO_OK ? value : before[1]), "value of a point", n, position);
 }
@@ -252,6 +266,9 @@ static void try_points(void)
     expect_point(0, 0, SULMIREJO_SHAPE, 0, 0);
     expect_point(4097, 0, SULMIREJO_SHAPE, 0, 0);
     expect_point((size_t)-1, (size_t)-1, SULMIREJO_SHAPE, 0, 0);
+    /* 4 and 1 where only 32 bits are looked at */
+    expect_point((size_t)4294967300u, 1, SULMIREJO_SHAPE, 0, 0);
+    expect_point(4, (size_t)4294967297u, SULMIREJO_POSITION, 0, 0);
 }
 
 int main(void)

@@ -1,7 +1,19 @@
 // A program to count instructions on: it transforms a list as often as its input says.
 use field::Outcome;
+use field::inner::product;
 use libc::STDIN_FILENO;
 use libc::STDOUT_FILENO;
+
+// Numbers without a pattern: the powers of 3 run through all symbols but 0.
+fn fill(list: &mut [u32]) {
+    let mut power: u32 = 1;
+    let mut i = 0;
+    while i < list.len() {
+        list[i] = power;
+        power = product(power, 3);
+        i += 1;
+    }
+}
 
 // 0 is the transform, anything else the inverse.
 fn call(inverse: u8, list: &mut [u32], work: &mut [u32]) -> Outcome {
@@ -11,7 +23,7 @@ fn call(inverse: u8, list: &mut [u32], work: &mut [u32]) -> Outcome {
     transform::inverse(list, work)
 }
 
-// Whether every call was taken.
+// Whether there was a call, and each was taken.
 fn repeat(inverse: u8, times: u8, list: &mut [u32], work: &mut [u32]) -> bool {
     let mut left = times;
     while 0 < left {
@@ -21,7 +33,7 @@ fn repeat(inverse: u8, times: u8, list: &mut [u32], work: &mut [u32]) -> bool {
         }
         left -= 1;
     }
-    true
+    0 < times
 }
 
 // The same on the first size numbers.
@@ -39,8 +51,9 @@ fn on_front(inverse: u8, times: u8, size: usize, list: &mut [u32], work: &mut [u
 fn main() {
     let mut input = [0u8; 3];
     let _ = libc::read(STDIN_FILENO, &mut input);
-    let mut list = [12345u32; 4096];
+    let mut list = [0u32; 4096];
     let mut work = [0u32; 4096];
+    fill(&mut list);
     let exponent = input[1];
     if exponent <= 12 {
         let size: usize = 1 << exponent;

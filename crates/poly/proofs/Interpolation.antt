@@ -9,14 +9,14 @@ use Rattle.field.specs.Congruence.{_≈_}
 use Rattle.field.specs.Field.{difference, product, inverse}
 use Rattle.field.proofs.Congruence.{≈-of, ≈-sym, _∘≈_, _+≈_, _·≈_, mul-≈, comb}
 use Rattle.field.proofs.Fermat.{inverse-≈}
-use Rattle.field.proofs.Ring.{product-≈}
+use Rattle.field.proofs.Ring.{difference-≈, product-≈}
 use Rattle.poly.specs.Distinct.{Distinct}
 use Rattle.poly.specs.Every.{Every}
 use Rattle.poly.specs.Interpolation.{slopes, through, Fits}
 use Rattle.poly.specs.Raised.{raised}
 use Rattle.poly.specs.Value.{value}
 use Rattle.poly.proofs.Counting.{unique}
-use Rattle.poly.proofs.Raised.{difference-≈, raised-length, raised-symbols, raised-value}
+use Rattle.poly.proofs.Raised.{raised-length, raised-symbols, raised-value}
 
 pub slopes-length : (x y : ℕ) (zs ws : List ℕ) → length zs ≡ length ws → length (slopes x y zs ws) ≡ length zs
 unfolding slopes
@@ -54,23 +54,25 @@ slope x y z w apart =
     run = difference-≈ z x
 
 -- where h has the slopes, y + (X - x)·h has the values
-raised-fits : (x y : ℕ) (h zs ws : List ℕ) → Every (λ z. ¬ (z ≈ x)) zs → Fits h zs (slopes x y zs ws)
-    → Fits (raised x y h) zs ws
+raised-fits : (x y : ℕ) (h zs ws : List ℕ) → length zs ≡ length ws → Every (λ z. ¬ (z ≈ x)) zs
+    → Fits h zs (slopes x y zs ws) → Fits (raised x y h) zs ws
 unfolding Every Fits slopes
-raised-fits x y h [] ws apart fits = tt
-raised-fits x y h (z ∷ zs) [] apart fits = absurd fits
-raised-fits x y h (z ∷ zs) (w ∷ ws) apart fits = (
+raised-fits x y h [] [] size apart fits = tt
+raised-fits x y h [] (w ∷ ws) size apart fits = absurd (omega arith)
+raised-fits x y h (z ∷ zs) [] size apart fits = absurd fits
+raised-fits x y h (z ∷ zs) (w ∷ ws) size apart fits = (
   comb (raised-value x y h z +≈ (z + 65536 * x) ·≈ fits .0 +≈ slope x y z w (apart .0)) (x * value h z) y (omega arith),
-  raised-fits x y h zs ws (apart .1) (fits .1),
+  raised-fits x y h zs ws (omega arith) (apart .1) (fits .1),
 )
 
 pub through-fits : (xs ys : List ℕ) → length xs ≡ length ys → Distinct xs → Fits (through xs ys) xs ys
 unfolding Distinct Fits through
-through-fits [] ys size apart = tt
+through-fits [] [] size apart = tt
+through-fits [] (y ∷ ys) size apart = absurd (omega arith)
 through-fits (x ∷ xs) [] size apart = absurd (omega arith)
 through-fits (x ∷ xs) (y ∷ ys) size apart = (
   comb (raised-value x y rest x) 0 0 (omega arith),
-  raised-fits x y rest xs ys (apart .0)
+  raised-fits x y rest xs ys (omega arith) (apart .0)
       (through-fits xs (slopes x y xs ys) (sym (slopes-length x y xs ys (omega arith))) (apart .1)),
 )
   where
@@ -80,7 +82,8 @@ through-fits (x ∷ xs) (y ∷ ys) size apart = (
 -- two lists that fit have the same values
 fits-same : (s t xs ys : List ℕ) → Fits s xs ys → Fits t xs ys → Every (λ x. value s x ≈ value t x) xs
 unfolding Every Fits
-fits-same s t [] ys g h = tt
+fits-same s t [] [] g h = tt
+fits-same s t [] (y ∷ ys) g h = absurd g
 fits-same s t (x ∷ xs) [] g h = absurd g
 fits-same s t (x ∷ xs) (y ∷ ys) g h = (g .0 ∘≈ ≈-sym (h .0), fits-same s t xs ys (g .1) (h .1))
 

@@ -8,15 +8,10 @@ use lib.ListN.{length, getD}
 use Rattle.field.specs.Congruence.{_≈_}
 use Rattle.field.specs.Field.{difference, product}
 use Rattle.field.proofs.Congruence.{≈-refl, _∘≈_, _+≈_, _·≈_, mod-≈, comb}
-use Rattle.field.proofs.Ring.{product-≈, difference-lt}
+use Rattle.field.proofs.Ring.{difference-≈, product-≈, difference-lt}
 use Rattle.poly.specs.Every.{Every}
 use Rattle.poly.specs.Raised.{raised}
 use Rattle.poly.specs.Value.{value}
-
--- a difference is congruent to the plain one
-pub difference-≈ : (a b : ℕ) → difference a b ≈ a + 65536 * b
-unfolding difference
-difference-≈ a b = mod-≈ (a + 65536 * b)
 
 pub raised-length : (x y : ℕ) (h : List ℕ) → length (raised x y h) ≡ suc (length h)
 unfolding raised

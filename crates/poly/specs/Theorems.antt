@@ -1,11 +1,12 @@
 -- What is proved of the definitions, as statements: proofs/Theorems.antt proves each under the same name in small letters.
 use mathlib.Core.Path.{_≡_}
 use mathlib.Core.List.{List, [], _∷_, _++_}
-use Prim.Native.Nat.{ℕ, suc, _+_, _-_, _*_, _^_, _<_, _≤_}
+use Prim.Native.Nat.{ℕ, suc, _+_, _-_, _*_, _^_, _≤_}
 use lib.ListN.{length, getD, replicate}
 use Rattle.field.specs.Congruence.{_≈_}
 use Rattle.field.specs.Field.{power}
 use Rattle.field.specs.Roots.{root}
+use Rattle.field.specs.Symbol.{Symbols}
 use Rattle.poly.specs.Distinct.{Distinct}
 use Rattle.poly.specs.Division.{quotient}
 use Rattle.poly.specs.Every.{Every}
@@ -42,19 +43,19 @@ VanishingIsZero =
 -- two lists of k symbols with the same values at k distinct points are equal
 abbrev pub Unique : Type 0
 Unique =
-    (xs s t : List ℕ) → length s ≡ length xs → length t ≡ length xs → Distinct xs → Every (_< 65537) s
-    → Every (_< 65537) t → Every (λ x. value s x ≈ value t x) xs → s ≡ t
+    (xs s t : List ℕ) → length s ≡ length xs → length t ≡ length xs → Distinct xs → Symbols s → Symbols t
+    → Every (λ x. value s x ≈ value t x) xs → s ≡ t
 
 -- the polynomial through k distinct points has k symbols and the given values
 abbrev pub InterpolationFits : Type 0
 InterpolationFits =
     (xs ys : List ℕ) → length xs ≡ length ys → Distinct xs
-    → (length (through xs ys) ≡ length xs) × Every (_< 65537) (through xs ys) × Fits (through xs ys) xs ys
+    → (length (through xs ys) ≡ length xs) × Symbols (through xs ys) × Fits (through xs ys) xs ys
 
 -- and no other list of k symbols has them
 abbrev pub InterpolationUnique : Type 0
 InterpolationUnique =
-    (xs ys s : List ℕ) → length xs ≡ length ys → Distinct xs → length s ≡ length xs → Every (_< 65537) s → Fits s xs ys
+    (xs ys s : List ℕ) → length xs ≡ length ys → Distinct xs → length s ≡ length xs → Symbols s → Fits s xs ys
     → s ≡ through xs ys
 
 -- Products of factors X - z
@@ -80,7 +81,7 @@ AllRoots =
     (n : ℕ) (zs : List ℕ) → length zs ≡ suc n → Distinct zs → Every (λ z. z ^ suc n ≈ 1) zs
     → vanishing zs ≡ 65536 ∷ (replicate n 0 ++ (1 ∷ []))
 
--- the powers of the root of order N = 2 ^ i are such points
+-- so the product over the powers of the root of order N = 2 ^ i is X^N - 1
 abbrev pub RootsOfUnity : Type 0
 RootsOfUnity =
     (i : ℕ) → i ≤ 16 → vanishing (tab (2 ^ i) (λ j. power (root i) j)) ≡ 65536 ∷ (replicate (2 ^ i - 1) 0 ++ (1 ∷ []))

@@ -1,11 +1,10 @@
 -- Status and number are the answer's, so the face tells what the functions behind it answer.
 -- Assumes nothing.
-use mathlib.Core.Path.{_≡_, sym, ap, ap₂, _∙_}
+use mathlib.Core.Path.{_≡_, ap, ap₂, _∙_}
 use mathlib.Core.List.{List, [], _∷_}
 use Prim.Native.Nat.{ℕ}
 use Rattle.field.specs.Refusals.{Answer, result, refused, numberOf, placeOf, toldOutcome}
 use Rattle.field.specs.declared.refusal.Outcome.{Outcome}
-use Rattle.field.specs.declared.refusal.Outcome.the-variants.{Refused}
 use Rattle.field.specs.declared.refusal.Refusal.{Refusal}
 use Rattle.transform.specs.Calls.{Leaves}
 use Rattle.sulmirejo.specs.Face.{Returned, returned, PointReturned, pointReturned, ListsReturned, listsReturned}

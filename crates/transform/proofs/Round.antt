@@ -60,11 +60,11 @@ pub record Opposite (r q n : ℕ) : Type 0 where
   pub apart : (i l : ℕ) → i < n → l < n → r ^ i * q ^ l ≈ 1 → i ≡ l
   pub meet : (l : ℕ) → r ^ l * q ^ l ≈ 1
 
--- the values at the powers of r, valued at y: the sums exchanged
-exchanged : (r n y : ℕ) (a : List ℕ)
+-- the values at the powers of r, valued at y: the sums sums-exchanged
+sums-exchanged : (r n y : ℕ) (a : List ℕ)
     → value (values r n a) y ≈ total (length a) (λ i. getD a i 0 * geometric n (r ^ i * y))
 unfolding values geometric
-exchanged r n y a =
+sums-exchanged r n y a =
     ≈-of (value-tab n (λ j. value a (r ^ j) % 65537) y)
     ∘≈ total-≈ n _ (λ j. total (length a) (λ i. getD a i 0 * (r ^ i * y) ^ j)) (λ j h. moved j)
     ∘≈ ≈-of (total-swap n (length a) (λ j i. getD a i 0 * (r ^ i * y) ^ j) ∙ total-ext (length a) _ _ (λ i h. total-scale n (λ j. (r ^ i * y) ^ j) (getD a i 0)))
@@ -83,7 +83,7 @@ exchanged r n y a =
 pub round : (r q n : ℕ) → Opposite r q n → (a : List ℕ) → length a ≡ n → (l : ℕ) → l < n
     → value (values r n a) (q ^ l) ≈ n * getD a l 0
 round r q n o a e l h =
-    exchanged r n (q ^ l) a
+    sums-exchanged r n (q ^ l) a
     ∘≈ total-single (length a) (λ i. getD a i 0 * geometric n (r ^ i * q ^ l)) l (omega arith)
     (λ i k other. getD a i 0 ·≈ geometric-none n (r ^ i * q ^ l) (full-turn i) (λ one. other (o .apart i l (omega arith) h one))
     ∘≈ ≈-of {b = 0} (omega arith))

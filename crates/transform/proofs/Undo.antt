@@ -116,7 +116,7 @@ module _ (a : List ℕ) (ready : Ready a) where
   unfolding r q rootOf
   opposed = subst (Opposite (root (levelOf n)) (inverse (root (levelOf n)))) (sym size) (opposite (levelOf n) (level-le n))
 
-  -- 1/N is one
+  -- 1/N times N is one
   unit : c * n ≈ 1
   unfolding c
   unit = ≈-of (mul-comm (inverse n) n) ∘≈ inverse-≈ n (λ none. omega (arith, none .mods, size, pow-pos (levelOf n), pow-mono (level-le n)))

@@ -37,8 +37,12 @@ abbrev pub oneOf : Bool → List ℕ → List ℕ
 oneOf false = transformOf
 oneOf true = inverseOf
 
+-- what either call leaves of the list and the working space that it is lent
+abbrev pub callLeaves : Bool → List ℕ → List ℕ → Leaves
+callLeaves back list work = leaves (judged list (length work)) (oneOf back) list work
+
 abbrev pub transformLeaves : List ℕ → List ℕ → Leaves
-transformLeaves list work = leaves (judged list (length work)) transformOf list work
+transformLeaves = callLeaves false
 
 abbrev pub inverseLeaves : List ℕ → List ℕ → Leaves
-inverseLeaves list work = leaves (judged list (length work)) inverseOf list work
+inverseLeaves = callLeaves true

@@ -2,11 +2,11 @@
 use crate::inner;
 use field::Outcome;
 ghost use mathlib.Core.Path.{_≡_};
-ghost use lib.ListN.{length};
 ghost use Rattle.field.specs.Refusals.{toldOutcome};
-ghost use Rattle.transform.specs.Calls.{Leaves, leaves, judged, oneOf, transformLeaves, inverseLeaves};
+ghost use Rattle.transform.specs.Calls.{Leaves, oneOf, callLeaves, transformLeaves, inverseLeaves};
 ghost use Rattle.transform.specs.Ready.{Ready};
 
+// The transform, or the inverse where back is asked.
 fn one_of(back: bool, list: &mut [u32])
     requires { ⌜ Ready (now list) ⌝ }
     ensures { λ _. ⌜ now (list .exit) ≡ oneOf back (now (list .entry)) ⌝ }
@@ -18,9 +18,9 @@ fn one_of(back: bool, list: &mut [u32])
     inner::transform(list);
 }
 
-// Both calls, back being the inverse.
+// Both calls: the checks, the work in place, and the working space cleared.
 fn call(back: bool, list: &mut [u32], work: &mut [u32]) -> Outcome
-    ensures { λ r. ⌜ _≡_ {A = Leaves} (record { answer = toldOutcome r; list = now (list .exit); work = now (work .exit) }) (leaves (judged (now (list .entry)) (length (now (work .entry)))) (oneOf back) (now (list .entry)) (now (work .entry))) ⌝ }
+    ensures { λ r. ⌜ _≡_ {A = Leaves} (record { answer = toldOutcome r; list = now (list .exit); work = now (work .exit) }) (callLeaves back (now (list .entry)) (now (work .entry))) ⌝ }
 {
     let size = list.len();
     match inner::judge(list, work.len()) {

@@ -1,6 +1,6 @@
-// No entry points: the transform and its inverse in the list itself, with no room beside it, for lists that are known to be good. The list is
-// put in the order in which its even places are the front half and its odd places the back half, at every size; then halves are halved until
-// one number is left, and joined in place.
+// No entry points: the transform and its inverse in the list itself, with no room beside it, and the checks that the entry points make. Those
+// that ask for a good list say so; the checks, scaling and clearing take any. The list is put in the order in which its even places are the
+// front half and its odd places the back half, at every size; then halves are halved until one number is left, and joined in place.
 use field::Outcome;
 use field::Refusal;
 use field::inner::LONGEST;

@@ -6,42 +6,22 @@ use Prim.Native.Nat.{ℕ}
 use Rattle.field.specs.Refusals.{Answer, result, refused, numberOf, placeOf, toldOutcome}
 use Rattle.field.specs.declared.refusal.Outcome.{Outcome}
 use Rattle.field.specs.declared.refusal.Refusal.{Refusal}
-use Rattle.transform.specs.Calls.{Leaves}
-use Rattle.sulmirejo.specs.Face.{Returned, returned, PointReturned, pointReturned, ListsReturned, listsReturned}
+use Rattle.transform.specs.Calls.{Leaves, left}
+use Rattle.sulmirejo.specs.Face.{Returned, status-number, returned, with-point, pointReturned, with-lists, listsReturned}
 
-pair : ℕ → ℕ → Returned
-pair s p = record { status = s; number = p }
+pub refused-returned : (x : Refusal) (s p : ℕ) → s ≡ numberOf x → p ≡ placeOf x → status-number s p ≡ returned (refused x)
+refused-returned x s p number place = ap₂ status-number number place
 
-pub refused-returned : (x : Refusal) (s p : ℕ) → s ≡ numberOf x → p ≡ placeOf x
-    → _≡_ {A = Returned} (record { status = s; number = p }) (returned (refused x))
-unfolding pair
-refused-returned x s p number place = ap₂ pair number place
-
--- with a point beside them
-with-point : Returned → ℕ → PointReturned
-with-point r v = record { status = r .status; number = r .number; point = v }
-
-pub point-found : (a : Answer) (before v s p : ℕ) → result (v ∷ []) ≡ a
-    → _≡_ {A = Returned} (record { status = s; number = p }) (returned (result []))
-    → _≡_ {A = PointReturned} (record { status = s; number = p; point = v }) (pointReturned a before)
-unfolding with-point
+pub point-found : (a : Answer) (before v s p : ℕ) → result (v ∷ []) ≡ a → status-number s p ≡ returned (result [])
+    → with-point (status-number s p) v ≡ pointReturned a before
 point-found a before v s p is told =
     ap (λ (r : Returned). with-point r v) told ∙ ap (λ (a : Answer). pointReturned a before) is
 
-pub point-refused : (a : Answer) (x : Refusal) (before s p : ℕ) → refused x ≡ a
-    → _≡_ {A = Returned} (record { status = s; number = p }) (returned (refused x))
-    → _≡_ {A = PointReturned} (record { status = s; number = p; point = before }) (pointReturned a before)
-unfolding with-point
+pub point-refused : (a : Answer) (x : Refusal) (before s p : ℕ) → refused x ≡ a → status-number s p ≡ returned (refused x)
+    → with-point (status-number s p) before ≡ pointReturned a before
 point-refused a x before s p is told =
     ap (λ (r : Returned). with-point r before) told ∙ ap (λ (a : Answer). pointReturned a before) is
 
--- with two lists beside them
-with-lists : Returned → List ℕ → List ℕ → ListsReturned
-with-lists r l w = record { status = r .status; number = r .number; list = l; work = w }
-
-pub lists-told : (left : Leaves) (o : Outcome) (l w : List ℕ) (s p : ℕ)
-    → _≡_ {A = Leaves} (record { answer = toldOutcome o; list = l; work = w }) left
-    → _≡_ {A = Returned} (record { status = s; number = p }) (returned (toldOutcome o))
-    → _≡_ {A = ListsReturned} (record { status = s; number = p; list = l; work = w }) (listsReturned left)
-unfolding with-lists
-lists-told left o l w s p is told = ap (λ (r : Returned). with-lists r l w) told ∙ ap listsReturned is
+pub lists-told : (it : Leaves) (o : Outcome) (l w : List ℕ) (s p : ℕ) → left (toldOutcome o) l w ≡ it
+    → status-number s p ≡ returned (toldOutcome o) → with-lists (status-number s p) l w ≡ listsReturned it
+lists-told it o l w s p is told = ap (λ (r : Returned). with-lists r l w) told ∙ ap listsReturned is

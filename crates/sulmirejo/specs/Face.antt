@@ -9,9 +9,12 @@ pub record Returned : Type 0 where
   pub status : ℕ
   pub number : ℕ
 
+abbrev pub status-number : ℕ → ℕ → Returned
+status-number status number = record { status = status; number = number }
+
 abbrev pub returned : Answer → Returned
-returned (result vs) = record { status = 0; number = 0 }
-returned (refusal n i) = record { status = n; number = i }
+returned (result vs) = status-number 0 0
+returned (refusal n i) = status-number n i
 
 -- a point: it is written on success alone
 pub record PointReturned : Type 0 where
@@ -19,10 +22,13 @@ pub record PointReturned : Type 0 where
   pub number : ℕ
   pub point : ℕ
 
--- the answer, and what stood in `point` before
+abbrev pub with-point : Returned → ℕ → PointReturned
+with-point r point = record { status = r .status; number = r .number; point = point }
+
+-- the answer told, and what stands in `point` where it held `before`
 abbrev pub pointReturned : Answer → ℕ → PointReturned
-pointReturned (result vs) before = record { status = 0; number = 0; point = getD vs 0 0 }
-pointReturned (refusal n i) before = record { status = n; number = i; point = before }
+pointReturned (result vs) before = with-point (returned (result vs)) (getD vs 0 0)
+pointReturned (refusal n i) before = with-point (returned (refusal n i)) before
 
 -- the transform and its inverse: what they leave, with the answer told
 pub record ListsReturned : Type 0 where
@@ -31,11 +37,8 @@ pub record ListsReturned : Type 0 where
   pub list : List ℕ
   pub work : List ℕ
 
+abbrev pub with-lists : Returned → List ℕ → List ℕ → ListsReturned
+with-lists r list work = record { status = r .status; number = r .number; list = list; work = work }
+
 abbrev pub listsReturned : Leaves → ListsReturned
-listsReturned left =
-    record {
-      status = returned (left .answer) .status;
-      number = returned (left .answer) .number;
-      list = left .list;
-      work = left .work;
-    }
+listsReturned it = with-lists (returned (it .answer)) (it .list) (it .work)

@@ -7,11 +7,11 @@ ghost use mathlib.Core.Path.{_≡_};
 ghost use Rattle.field.specs.Points.{pointAnswer};
 ghost use Rattle.field.specs.Refusals.{toldOutcome};
 ghost use Rattle.transform.specs.Calls.{transformLeaves, inverseLeaves};
-ghost use Rattle.sulmirejo.specs.Face.{Returned, returned, PointReturned, pointReturned, ListsReturned, listsReturned};
+ghost use Rattle.sulmirejo.specs.Face.{status-number, returned, with-point, pointReturned, with-lists, listsReturned};
 
 // 0 or the refusal's number; the place goes to number.
 fn tell(outcome: Outcome, number: &mut usize) -> u32
-    ensures { λ r. ⌜ _≡_ {A = Returned} (record { status = r; number = now (number .exit) }) (returned (toldOutcome outcome)) ⌝ }
+    ensures { λ r. ⌜ status-number r (now (number .exit)) ≡ returned (toldOutcome outcome) ⌝ }
 {
     match outcome {
         Outcome::Done => {
@@ -32,7 +32,7 @@ pub extern "C" fn sulmirejo_point(
     point: &mut u32,
     number: &mut usize,
 ) -> u32
-    ensures { λ r. ⌜ _≡_ {A = PointReturned} (record { status = r; number = now (number .exit); point = now (point .exit) }) (pointReturned (pointAnswer n position) (now (point .entry))) ⌝ }
+    ensures { λ r. ⌜ with-point (status-number r (now (number .exit))) (now (point .exit)) ≡ pointReturned (pointAnswer n position) (now (point .entry)) ⌝ }
 {
     match field::point_at(n, Position(position)) {
         PointAnswer::Point(found) => {
@@ -46,7 +46,7 @@ pub extern "C" fn sulmirejo_point(
 
 #[no_mangle]
 pub extern "C" fn sulmirejo_transform(list: &mut [u32], work: &mut [u32], number: &mut usize) -> u32
-    ensures { λ r. ⌜ _≡_ {A = ListsReturned} (record { status = r; number = now (number .exit); list = now (list .exit); work = now (work .exit) }) (listsReturned (transformLeaves (now (list .entry)) (now (work .entry)))) ⌝ }
+    ensures { λ r. ⌜ with-lists (status-number r (now (number .exit))) (now (list .exit)) (now (work .exit)) ≡ listsReturned (transformLeaves (now (list .entry)) (now (work .entry))) ⌝ }
 {
     let outcome = transform::transform(list, work);
     tell(outcome, number)
@@ -54,7 +54,7 @@ pub extern "C" fn sulmirejo_transform(list: &mut [u32], work: &mut [u32], number
 
 #[no_mangle]
 pub extern "C" fn sulmirejo_inverse(list: &mut [u32], work: &mut [u32], number: &mut usize) -> u32
-    ensures { λ r. ⌜ _≡_ {A = ListsReturned} (record { status = r; number = now (number .exit); list = now (list .exit); work = now (work .exit) }) (listsReturned (inverseLeaves (now (list .entry)) (now (work .entry)))) ⌝ }
+    ensures { λ r. ⌜ with-lists (status-number r (now (number .exit))) (now (list .exit)) (now (work .exit)) ≡ listsReturned (inverseLeaves (now (list .entry)) (now (work .entry))) ⌝ }
 {
     let outcome = transform::inverse(list, work);
     tell(outcome, number)

@@ -16,7 +16,7 @@ use Rattle.field.specs.declared.refusal.Refusal.{Refusal}
 use Rattle.field.specs.declared.refusal.Refusal.the-variants.{Shape, Room, Value}
 use Rattle.field.proofs.Refusals.{result-no-refusal}
 use Rattle.field.proofs.Values.{all-symbols}
-use Rattle.transform.specs.Calls.{badLength, judged, Leaves, leaves}
+use Rattle.transform.specs.Calls.{badLength, judged, left, leaves}
 use Rattle.transform.specs.Ready.{Ready}
 
 -- a check that did not refuse
@@ -52,20 +52,16 @@ judged-good list room e =
     }
 
 module _ (list work : List ℕ) (f : List ℕ → List ℕ) where
-  done-with : List ℕ → List ℕ → Leaves
-  done-with l w = record { answer = result []; list = l; work = w }
-
   -- what is left on success: cells is what the cleared part holds
   pub leaves-done : judged list (length work) ≡ result [] → (l cells : List ℕ) → l ≡ f list → cells ≡ replicate (length (take (length list - 0) work)) 0
-      → _≡_ {A = Leaves} (record { answer = result []; list = l; work = cells ++ drop (length list - 0) work }) (leaves (judged list (length work)) f list work)
-  unfolding done-with
+      → left (result []) l (cells ++ drop (length list - 0) work) ≡ leaves (judged list (length work)) f list work
   leaves-done good l cells is cleared =
-      ap₂ done-with is
+      ap₂ (left (result [])) is
       (ap₂ _++_
       (cleared ∙ ap (λ (m : ℕ). replicate m 0) {x = length (take (length list - 0) work)} {y = length list} (omega (arith, length-take (length list - 0) work, judged-good list (length work) good .enough)))
       (ap (λ (m : ℕ). drop m work) {x = length list - 0} {y = length list} (omega arith)))
       ∙ ap (λ (a : Answer). leaves a f list work) (sym good)
 
   pub leaves-refused : (x : Refusal) → judged list (length work) ≡ refused x
-      → _≡_ {A = Leaves} (record { answer = refused x; list = list; work = work }) (leaves (judged list (length work)) f list work)
+      → left (refused x) list work ≡ leaves (judged list (length work)) f list work
   leaves-refused x bad = ap (λ (a : Answer). leaves a f list work) (sym bad)

@@ -26,11 +26,13 @@ pub record Leaves : Type 0 where
   pub list : List ℕ
   pub work : List ℕ
 
+abbrev pub left : Answer → List ℕ → List ℕ → Leaves
+left answer list work = record { answer = answer; list = list; work = work }
+
 -- "On refusals .. nothing lent is written." Else the list holds the result, the stated working space is zero and the rest of it untouched.
 abbrev pub leaves : Answer → (List ℕ → List ℕ) → List ℕ → List ℕ → Leaves
-leaves (refusal n i) f list work = record { answer = refusal n i; list = list; work = work }
-leaves (result vs) f list work =
-    record { answer = result vs; list = f list; work = replicate (length list) 0 ++ drop (length list) work }
+leaves (refusal n i) f list work = left (refusal n i) list work
+leaves (result vs) f list work = left (result vs) (f list) (replicate (length list) 0 ++ drop (length list) work)
 
 -- the transform, or back by the inverse
 abbrev pub oneOf : Bool → List ℕ → List ℕ

@@ -12,7 +12,7 @@ use Rattle.field.specs.Shape.{longest}
 use Rattle.field.specs.Symbol.{Symbols}
 use Rattle.field.specs.declared.refusal.Outcome.{Outcome}
 use Rattle.poly.specs.Value.{value}
-use Rattle.transform.specs.Calls.{badLength, Leaves, transformLeaves, inverseLeaves}
+use Rattle.transform.specs.Calls.{badLength, Leaves, left, transformLeaves, inverseLeaves}
 use Rattle.transform.specs.Halving.{halving}
 use Rattle.transform.specs.Order.{arranged, halved}
 use Rattle.transform.specs.Transform.{transformOf, inverseOf}
@@ -60,9 +60,9 @@ GoodLengths = (N : ℕ) → (badLength N ≡ false) ↔ ((N ≤ longest) × ((e 
 
 -- two outcomes of a call are equal: the answer and every cell of both lists
 abbrev pub Settled : Leaves → Type 0
-Settled left =
-    (r s : Outcome) (l m w v : List ℕ) → record { answer = toldOutcome r; list = l; work = w } ≡ left
-    → record { answer = toldOutcome s; list = m; work = v } ≡ left → (r ≡ s) × (l ≡ m) × (w ≡ v)
+Settled it =
+    (r s : Outcome) (l m w v : List ℕ) → left (toldOutcome r) l w ≡ it → left (toldOutcome s) m v ≡ it
+    → (r ≡ s) × (l ≡ m) × (w ≡ v)
 
 abbrev pub TransformSettled : Type 0
 TransformSettled = (list work : List ℕ) → Settled (transformLeaves list work)

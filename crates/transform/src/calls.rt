@@ -3,7 +3,7 @@ use crate::inner;
 use field::Outcome;
 ghost use mathlib.Core.Path.{_≡_};
 ghost use Rattle.field.specs.Refusals.{toldOutcome};
-ghost use Rattle.transform.specs.Calls.{Leaves, oneOf, callLeaves, transformLeaves, inverseLeaves};
+ghost use Rattle.transform.specs.Calls.{left, oneOf, callLeaves, transformLeaves, inverseLeaves};
 ghost use Rattle.transform.specs.Ready.{Ready};
 
 // The transform, or the inverse where back is asked.
@@ -20,7 +20,7 @@ fn one_of(back: bool, list: &mut [u32])
 
 // Both calls: the checks, the work in place, and the working space cleared.
 fn call(back: bool, list: &mut [u32], work: &mut [u32]) -> Outcome
-    ensures { λ r. ⌜ _≡_ {A = Leaves} (record { answer = toldOutcome r; list = now (list .exit); work = now (work .exit) }) (callLeaves back (now (list .entry)) (now (work .entry))) ⌝ }
+    ensures { λ r. ⌜ left (toldOutcome r) (now (list .exit)) (now (work .exit)) ≡ callLeaves back (now (list .entry)) (now (work .entry)) ⌝ }
 {
     let size = list.len();
     match inner::judge(list, work.len()) {
@@ -33,16 +33,18 @@ fn call(back: bool, list: &mut [u32], work: &mut [u32]) -> Outcome
     }
 }
 
-// A_j = sum over i of a_i · r^(ij), in place of the list. The working space is as long as the list, and zero afterwards.
+// A_j = sum over i of a_i · r^(ij), in place of the list. As much of the working space as the list is long is zero
+// afterwards.
 pub fn transform(list: &mut [u32], work: &mut [u32]) -> Outcome
-    ensures { λ r. ⌜ _≡_ {A = Leaves} (record { answer = toldOutcome r; list = now (list .exit); work = now (work .exit) }) (transformLeaves (now (list .entry)) (now (work .entry))) ⌝ }
+    ensures { λ r. ⌜ left (toldOutcome r) (now (list .exit)) (now (work .exit)) ≡ transformLeaves (now (list .entry)) (now (work .entry)) ⌝ }
 {
     call(false, list, work)
 }
 
-// a_j = (1/N) · sum over i of A_i · r^(-ij), in place of the list. The working space is as long as the list, and zero afterwards.
+// a_j = (1/N) · sum over i of A_i · r^(-ij), in place of the list. As much of the working space as the list is long is zero
+// afterwards.
 pub fn inverse(list: &mut [u32], work: &mut [u32]) -> Outcome
-    ensures { λ r. ⌜ _≡_ {A = Leaves} (record { answer = toldOutcome r; list = now (list .exit); work = now (work .exit) }) (inverseLeaves (now (list .entry)) (now (work .entry))) ⌝ }
+    ensures { λ r. ⌜ left (toldOutcome r) (now (list .exit)) (now (work .exit)) ≡ inverseLeaves (now (list .entry)) (now (work .entry)) ⌝ }
 {
     call(true, list, work)
 }

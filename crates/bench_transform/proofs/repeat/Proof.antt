@@ -22,12 +22,15 @@ repeat-spec =
     (λ c κs. search needs)
     (λ c. search needs)
     (λ c. search needs)
-    (λ c. c .before .before .before .before .before .before .call .kept .1 .0 ∙ c .before .before .before .before .before .before .before .before .before .before .loop .inv .0)
-    (λ c. c .before .before .before .before .before .before .call .kept .1 .1 .0 ∙ c .before .before .before .before .before .before .before .before .before .before .loop .inv .1)
+    (λ c. let called = c .before .before .before .before .before .before in called .call .kept .1 .0 ∙ called .before .before .before .before .loop .inv .0)
+    (λ c. let called = c .before .before .before .before .before .before in called .call .kept .1 .1 .0 ∙ called .before .before .before .before .loop .inv .1)
     (λ c. search needs)
     (λ c. search needs)
     (λ c. search needs)
-    (λ c. (c .before .before .before .before .before .before .call .kept .1 .0 ∙ c .before .before .before .before .before .before .before .before .before .before .loop .inv .0, c .before .before .before .before .before .before .call .kept .1 .1 .0 ∙ c .before .before .before .before .before .before .before .before .before .before .loop .inv .1))
+    (λ c.
+    let called = c .before .before .before .before .before .before in
+    let l = called .before .before .before .before .loop in
+    (called .call .kept .1 .0 ∙ l .inv .0, called .call .kept .1 .1 .0 ∙ l .inv .1))
     (λ c. c .before .loop .inv .0)
     (λ c. c .before .loop .inv .1)
     (λ c. search needs))

@@ -19,14 +19,32 @@ call-spec =
     (tie.spec
     (λ c κs. search needs)
     (λ c. search needs)
-    (λ c κs. judged-good _ _ (sym (c .before .before .before .judge .ensures) ∙ ap toldOutcome (c .before .enum-told .given .1)) .ready)
+    (λ c κs.
+    let told = c .before in
+    judged-good _ _ (sym (told .before .before .judge .ensures) ∙ ap toldOutcome (told .enum-told .given .1)) .ready)
     (λ c. search needs)
     (λ c. search needs)
-    (λ c. omega (arith, judged-good _ _ (sym (c .before .before .before .before .before .before .judge .ensures) ∙ ap toldOutcome (c .before .before .before .before .enum-told .given .1)) .enough))
+    (λ c.
+    let told = c .before .before .before .before in
+    omega (arith, judged-good _ _ (sym (told .before .before .judge .ensures) ∙ ap toldOutcome (told .enum-told .given .1)) .enough))
     (λ c κs. search needs)
     (λ c. search needs)
     (λ c. search needs)
-    (λ c. length-front {A = ℕ} (c .before .before .before .before .before .before .before .before .before .before .before .before .before .before .args .work .now) (c .before .before .clear .last .0) (length (c .before .before .before .before .before .before .before .before .before .before .before .before .before .before .args .list .now) - 0) (c .before .before .clear .kept .0))
-    (λ c. leaves-done _ _ (oneOf (c .before .before .before .before .before .before .before .before .before .before .before .before .before .before .args .back)) (sym (c .before .before .before .before .before .before .before .before .before .before .judge .ensures) ∙ ap toldOutcome (c .before .before .before .before .before .before .before .before .enum-told .given .1)) _ _ (c .before .before .before .before .before .before .one-of .ensures) (c .before .before .clear .ensures))
+    (λ c.
+    let cleared = c .before .before in
+    let start = cleared .before .before .before .before .before .before .before .before .before .before .before .before in
+    length-front {A = ℕ} (start .args .work .now) (cleared .clear .last .0) (length (start .args .list .now) - 0) (cleared .clear .kept .0))
+    (λ c.
+    let cleared = c .before .before in
+    let worked = cleared .before .before .before .before in
+    let told = worked .before .before in
+    let judged = told .before .before in
+    leaves-done _ _ (oneOf (judged .before .before .before .before .args .back)) (sym (judged .judge .ensures) ∙ ap toldOutcome (told .enum-told .given .1)) _ _
+    (worked .one-of .ensures)
+    (cleared .clear .ensures))
     (λ c. search needs)
-    (λ c. leaves-refused _ _ (oneOf (c .before .before .before .before .before .before .before .args .back)) (c .before .refusal .given .0 .0) (sym (c .before .before .before .judge .ensures) ∙ ap toldOutcome (c .before .refusal .given .1))))
+    (λ c.
+    let known = c .before in
+    let judged = known .before .before in
+    leaves-refused _ _ (oneOf (judged .before .before .before .before .args .back)) (known .refusal .given .0 .0)
+    (sym (judged .judge .ensures) ∙ ap toldOutcome (known .refusal .given .1))))

@@ -13,7 +13,11 @@ one-of-spec =
     (tie.spec
     (λ c κs. search needs)
     (λ c. search needs)
-    (λ c. c .before .before .inverse .ensures ∙ ap (λ (b : Bool). oneOf b (c .before .before .before .before .before .before .args .list .now)) (sym (c .before .before .before .before .if1 .taken)))
+    (λ c.
+    let test = c .before .before .before .before in
+    c .before .before .inverse .ensures ∙ ap (λ (b : Bool). oneOf b (test .before .before .args .list .now)) (sym (test .if1 .taken)))
     (λ c κs. search needs)
     (λ c. search needs)
-    (λ c. c .before .before .transform .ensures ∙ ap (λ (b : Bool). oneOf b (c .before .before .before .before .before .before .args .list .now)) (sym (c .before .before .before .before .if1 .left))))
+    (λ c.
+    let test = c .before .before .before .before in
+    c .before .before .transform .ensures ∙ ap (λ (b : Bool). oneOf b (test .before .before .args .list .now)) (sym (test .if1 .left))))

@@ -50,15 +50,21 @@ arrange-spec =
     μ-loop
     (λ c. record { some = search needs; long = search needs; reverse = sym (reversed-zero _); arranging = arranging-none _ _ })
     (λ c κs.
-    let l = c .before .before .loop in
-    let inside = below _ (c .before .before .before .before .pre) (l .list) (l .i) (l .place) (l .inv) (c .before .loop-test .taken) in
+    let at = c .before .before in
+    let l = at .loop in
+    let inside = below _ (at .before .before .pre) (l .list) (l .i) (l .place) (l .inv) (c .before .loop-test .taken) in
     (omega arith, omega arith))
     (λ c κs. search needs)
     (λ c. omega (arith, c .before .before .before .before .before .before .loop .inv .long))
     (λ c. omega (arith, c .before .before .before .before .before .before .loop .inv .long))
     (λ c.
-    let l = c .before .before .before .before .before .before .loop in
-    more _ (c .before .before .before .before .before .before .before .before .pre) (l .list) (l .i) (l .place) (l .inv) (c .before .before .before .before .before .loop-test .taken) _ _ (c .before .before .before .exchange .ensures) (c .before .before .before .exchange .kept .0) (c .next-place .ensures))
+    let changed = c .before .before .before in
+    let test = changed .before .before in
+    let l = test .before .loop in
+    more _ (test .before .before .before .pre) (l .list) (l .i) (l .place) (l .inv) (test .loop-test .taken) _ _
+    (changed .exchange .ensures)
+    (changed .exchange .kept .0)
+    (c .next-place .ensures))
     (λ c. c .before .loop .inv .long)
     (λ c.
     let l = c .before .loop in

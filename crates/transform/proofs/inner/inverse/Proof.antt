@@ -22,13 +22,20 @@ inverse-spec =
     (λ c. omega (arith, short _ (c .before .before .before .before .pre)))
     (λ c κs. search needs)
     (λ c κs. c .before .before .before .before .before .before .pre .size)
-    (λ c κs. subst Ready (sym (c .before .before .before .arrange .ensures)) (arranged-ready _ (c .before .before .before .before .before .before .before .before .before .before .pre)))
+    (λ c κs.
+    let arranged = c .before .before .before in
+    subst Ready (sym (arranged .arrange .ensures)) (arranged-ready _ (arranged .before .before .before .before .before .before .before .pre)))
     (λ c κs. search needs)
     (λ c. c .before .before .scale .kept .0 ∙ c .before .before .before .before .before .before .halve .kept .0 ∙ c .before .before .before .before .before .before .before .before .before .before .arrange .kept .0)
     (λ c.
-    inverse-steps _ (c .before .before .before .before .before .before .before .before .before .before .before .before .before .before .before .before .before .pre) _ _ _ _ _
-    (c .before .before .before .before .before .before .before .before .before .before .before .before .before .inverse .ensures .is ∙ ap inverse (c .before .before .before .before .before .before .before .before .before .before .before .before .before .before .root .ensures .is ∙ ap root (c .before .before .before .before .before .before .before .before .before .before .before .before .before .before .before .level .ensures .is)))
-    (c .before .before .before .before .before .before .before .before .before .before .before .before .inverse2 .ensures .is)
-    (c .before .before .before .before .before .before .before .before .before .before .arrange .ensures)
-    (c .before .before .before .before .before .before .halve .ensures)
+    let halved = c .before .before .before .before .before .before in
+    let arranged = halved .before .before .before .before in
+    let part = arranged .before .before in
+    let back = part .before in
+    let root-found = back .before in
+    inverse-steps _ (root-found .before .before .before .pre) _ _ _ _ _
+    (back .inverse .ensures .is ∙ ap inverse (root-found .root .ensures .is ∙ ap root (root-found .before .level .ensures .is)))
+    (part .inverse2 .ensures .is)
+    (arranged .arrange .ensures)
+    (halved .halve .ensures)
     (c .before .before .scale .ensures)))

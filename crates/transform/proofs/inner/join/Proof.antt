@@ -75,8 +75,12 @@ join-spec =
     (λ c. search needs)
     (λ c. omega (arith, c .before .before .before .loop .inv .long))
     (λ c κs. search needs)
-    (λ c κs. let l = c .before .before .before .before .loop in (l .inv .small _ (omega (arith, l .inv .long)), c .product .ensures .small))
-    (λ c κs. let l = c .before .before .before .before .before .loop in (l .inv .small _ (omega (arith, l .inv .long)), c .before .product .ensures .small))
+    (λ c κs.
+    let l = c .before .before .before .before .loop in
+    (l .inv .small _ (omega (arith, l .inv .long)), c .product .ensures .small))
+    (λ c κs.
+    let l = c .before .before .before .before .before .loop in
+    (l .inv .small _ (omega (arith, l .inv .long)), c .before .product .ensures .small))
     (λ c. search needs)
     (λ c. omega (arith, c .before .before .before .before .before .before .loop .inv .long))
     (λ c. search needs)
@@ -85,8 +89,14 @@ join-spec =
     (λ c. search needs)
     (λ c. search needs)
     (λ c.
-    let l = c .before .before .before .before .before .before .before .loop in
-    more _ _ (c .before .before .before .before .before .before .before .before .before .pre) (l .list) (l .turn) (l .j) (l .inv) (c .before .before .before .before .before .before .loop-test .taken) _ _ _ _ (c .before .before .before .product .ensures .is) (c .before .before .sum .ensures) (c .before .difference .ensures) (c .product2 .ensures .is))
+    let turned = c .before .before .before in
+    let inside = turned .before .before .before in
+    let l = inside .before .loop in
+    more _ _ (inside .before .before .before .pre) (l .list) (l .turn) (l .j) (l .inv) (inside .loop-test .taken) _ _ _ _
+    (turned .product .ensures .is)
+    (c .before .before .sum .ensures)
+    (c .before .difference .ensures)
+    (c .product2 .ensures .is))
     (λ c. c .before .loop .inv .long)
     (λ c.
     let l = c .before .loop in

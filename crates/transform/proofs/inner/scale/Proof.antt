@@ -33,9 +33,16 @@ scale-spec =
     (λ c. search needs)
     (λ c. search needs)
     (λ c.
-    let l = c .before .before .before .loop in
-    (search needs, search needs, window-change (product (c .before .before .before .before .before .args .factor)) (l .i) (c .before .before .before .before .before .args .list .now) (l .list) _ (search needs) (l .inv .2) (c .product .ensures .is)))
+    let at = c .before .before .before in
+    let start = at .before .before in (
+      search needs,
+      search needs,
+      window-change (product (start .args .factor)) (at .loop .i) (start .args .list .now) (at .loop .list) _ (search needs) (at .loop .inv .2) (c .product .ensures .is),
+    ))
     (λ c. search needs)
     (λ c.
     let l = c .before .loop in
-    l .inv .2 ∙ window-all (l .i) _ (c .before .before .before .args .list .now) (search needs) ∙ ap (λ (n : ℕ). tab n (λ j. product (c .before .before .before .args .factor) (getD (c .before .before .before .args .list .now) j 0))) (omega arith)))
+    let start = c .before .before .before in
+    l .inv .2
+    ∙ window-all (l .i) _ (start .args .list .now) (search needs)
+    ∙ ap (λ (n : ℕ). tab n (λ j. product (start .args .factor) (getD (start .args .list .now) j 0))) (omega arith)))

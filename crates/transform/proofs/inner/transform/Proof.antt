@@ -17,10 +17,14 @@ transform-spec =
     (λ c κs. search needs)
     (λ c κs. search needs)
     (λ c κs. c .before .before .before .before .pre .size)
-    (λ c κs. subst Ready (sym (c .before .before .before .arrange .ensures)) (arranged-ready _ (c .before .before .before .before .before .before .before .before .pre)))
+    (λ c κs.
+    let arranged = c .before .before .before in
+    subst Ready (sym (arranged .arrange .ensures)) (arranged-ready _ (arranged .before .before .before .before .before .pre)))
     (λ c. c .before .before .halve .kept .0 ∙ c .before .before .before .before .before .before .arrange .kept .0)
     (λ c.
-    transform-steps _ (c .before .before .before .before .before .before .before .before .before .before .before .pre) _ _ _
-    (c .before .before .before .before .before .before .before .before .root .ensures .is ∙ ap root (c .before .before .before .before .before .before .before .before .before .level .ensures .is))
-    (c .before .before .before .before .before .before .arrange .ensures)
+    let arranged = c .before .before .before .before .before .before in
+    let root-found = arranged .before .before in
+    transform-steps _ (root-found .before .before .before .pre) _ _ _
+    (root-found .root .ensures .is ∙ ap root (root-found .before .level .ensures .is))
+    (arranged .arrange .ensures)
     (c .before .before .halve .ensures)))

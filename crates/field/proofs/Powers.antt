@@ -1,8 +1,8 @@
 -- Powers: the laws over ℕ that the library lacks, and the even powers of minus one modulo 65537.
 -- Assumes nothing.
-use mathlib.Core.Path.{_≡_, ap, _∙_}
+use mathlib.Core.Path.{_≡_, sym, ap, _∙_}
 use Prim.Native.Nat.{ℕ, zero, suc, _+_, _*_, _^_}
-use native.Mathlib.Nat.{pow-suc, pow-zero, mul-suc, mul-zero}
+use native.Mathlib.Nat.{pow-suc, pow-zero, mul-comm, mul-suc, mul-zero}
 use native.Mathlib.Omega.{arith}
 use lib.Pow.{pow-add}
 use Rattle.field.specs.Congruence.{_≈_}
@@ -25,6 +25,11 @@ pow-one x = pow-suc x 0 ∙ rw (pow-zero x) (omega arith)
 
 pub pow-two : (x n : ℕ) → x ^ (2 * n) ≡ (x * x) ^ n
 pow-two x n = pow-times x 2 n ∙ ap (_^ n) (pow-suc x 1 ∙ ap (_* x) (pow-one x))
+
+-- where the power n of a number is 1, so it is for each power of that number
+pub full-power : (x n i : ℕ) → x ^ n ≈ 1 → (x ^ i) ^ n ≈ 1
+full-power x n i full =
+    ≈-of (sym (pow-times x i n) ∙ ap (x ^_) (mul-comm i n) ∙ pow-times x n i) ∘≈ pow-≈ full i ∘≈ ≈-of (one-pow i)
 
 -- minus one squared is 1, so an even power of it is
 pub minus-one : (x n : ℕ) → x + 1 ≈ 0 → x ^ (2 * n) ≈ 1

@@ -1,6 +1,6 @@
 -- N is at least n, no smaller power of two is, and the exponent of a power of two is its own: what callers use of N instead of its definition.
 -- Assumes nothing.
-use mathlib.Core.Path.{_≡_, refl, sym, ap}
+use mathlib.Core.Path.{_≡_, refl, sym, ap, _∙_}
 use mathlib.Core.Logic.{inl, inr}
 use Prim.Native.Nat.{ℕ, _^_, _≤_}
 use native.Mathlib.Decide.{decLe}
@@ -14,6 +14,10 @@ use Rattle.field.proofs.First.{first-le, first-holds, first-before}
 pub level-le : (n : ℕ) → levelOf n ≤ 16
 unfolding levelOf
 level-le n = first-le 16 (λ e. leb n (2 ^ e))
+
+pub size-power : (n : ℕ) → sizeOf n ≡ 2 ^ levelOf n
+unfolding sizeOf
+size-power n = refl
 
 pub size-enough : (n : ℕ) → n ≤ 65536 → n ≤ sizeOf n
 unfolding sizeOf levelOf
@@ -47,3 +51,7 @@ level-power e h = le-antisymm (level-least (2 ^ e) e (le-of-eq refl)) up
 pub level-size : (n : ℕ) → levelOf (sizeOf n) ≡ levelOf n
 unfolding sizeOf
 level-size n = level-power (levelOf n) (level-le n)
+
+-- a power of two is its own N
+pub size-of-power : (e : ℕ) → e ≤ 16 → sizeOf (2 ^ e) ≡ 2 ^ e
+size-of-power e h = size-power (2 ^ e) ∙ ap (2 ^_) (level-power e h)

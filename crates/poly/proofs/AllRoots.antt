@@ -3,7 +3,6 @@
 use mathlib.Core.Path.{_≡_, sym, ap, _∙_}
 use mathlib.Core.List.{List, [], _∷_, _++_}
 use Prim.Native.Nat.{ℕ, suc, _+_, _-_, _*_, _^_, _<_, _≤_, suc-le-suc}
-use native.Mathlib.Nat.{mul-comm}
 use native.Mathlib.Omega.{arith}
 use lib.Dec.{lit<}
 use lib.ListN.{length, getD, take, replicate, length-replicate, drop-of-length-le}
@@ -11,8 +10,8 @@ use lib.Seq.{split-at, length-take-le}
 use Rattle.field.specs.Congruence.{_≈_}
 use Rattle.field.specs.Field.{power}
 use Rattle.field.specs.Roots.{root, HasOrder}
-use Rattle.field.proofs.Congruence.{≈-of, ≈-sym, _∘≈_, _+≈_, pow-≈, comb}
-use Rattle.field.proofs.Powers.{pow-times, one-pow}
+use Rattle.field.proofs.Congruence.{≈-sym, _∘≈_, _+≈_, pow-≈, comb}
+use Rattle.field.proofs.Powers.{full-power}
 use Rattle.field.proofs.Ring.{power-≈}
 use Rattle.field.proofs.Roots.{root-order, powers-distinct}
 use Rattle.poly.specs.Distinct.{Distinct}
@@ -77,11 +76,7 @@ module _ (r size : ℕ) (order : HasOrder r size) where
 
   power-full : (j : ℕ) → power r j ^ size ≈ 1
   unfolding power
-  power-full j =
-      pow-≈ (power-≈ r j) size
-      ∘≈ ≈-of (sym (pow-times r j size) ∙ ap (r ^_) (mul-comm j size) ∙ pow-times r size j)
-      ∘≈ pow-≈ (record { mods = order .full }) j
-      ∘≈ ≈-of (one-pow j)
+  power-full j = pow-≈ (power-≈ r j) size ∘≈ full-power r size j (record { mods = order .full })
 
   pub all-powers : vanishing (tab size (power r)) ≡ 65536 ∷ (replicate (size - 1) 0 ++ (1 ∷ []))
   all-powers =

@@ -4,6 +4,7 @@ pub mod Sum
 pub mod Value
 pub mod Parts
 pub mod Every
+pub mod Symbols
 pub mod Distinct
 pub mod Division
 pub mod Counting

@@ -1,14 +1,13 @@
 -- The proofs of specs/Theorems.antt, each under its name there in small letters.
 -- Assumes nothing.
-use Prim.Native.Nat.{_<_}
 use Rattle.poly.specs.Interpolation.{through}
 use Rattle.poly.specs.Theorems.{PlainSum, EvenOdd, Division, VanishingIsZero, Unique, InterpolationFits, InterpolationUnique, ProductValue, ProductRoots, ProductMonic, AllRoots, RootsOfUnity}
 use Rattle.poly.proofs.AllRoots as Roots
 use Rattle.poly.proofs.Counting as Counting
 use Rattle.poly.proofs.Division.{divided}
-use Rattle.poly.proofs.Every.{every-at, every-of}
 use Rattle.poly.proofs.Interpolation.{through-length, through-symbols, through-fits, through-unique}
 use Rattle.poly.proofs.Products as Products
+use Rattle.poly.proofs.Symbols.{symbols-at, symbols-every}
 use Rattle.poly.proofs.Value as Value
 
 pub plain-sum : PlainSum
@@ -25,17 +24,17 @@ vanishing-is-zero = Counting.vanishing-is-zero
 
 pub unique : Unique
 unique xs s t size-s size-t apart low-s low-t same =
-    Counting.unique xs s t size-s size-t apart (every-of (_< 65537) s low-s) (every-of (_< 65537) t low-t) same
+    Counting.unique xs s t size-s size-t apart (symbols-every s low-s) (symbols-every t low-t) same
 
 pub interpolation-fits : InterpolationFits
 interpolation-fits xs ys size apart = (
   through-length xs ys size,
-  every-at (_< 65537) (through xs ys) (through-symbols xs ys),
+  symbols-at (through xs ys) (through-symbols xs ys),
   through-fits xs ys size apart,
 )
 
 pub interpolation-unique : InterpolationUnique
-interpolation-unique xs ys s size apart size-s low fits = through-unique xs ys s size apart size-s (every-of (_< 65537) s low) fits
+interpolation-unique xs ys s size apart size-s low fits = through-unique xs ys s size apart size-s (symbols-every s low) fits
 
 pub product-value : ProductValue
 product-value = Products.product-value

@@ -3,28 +3,21 @@
 use mathlib.Core.Path.{_≡_, refl, sym, ap, ap₂, subst, _∙_}
 use mathlib.Core.List.{List, _++_, append-nil}
 use Prim.Native.Nat.{ℕ, zero, suc, _+_, _-_, _^_, _/_, _%_, _<_, _≤_}
-use native.Mathlib.Decide.{decLt, ℕ-discrete}
 use native.Mathlib.Omega.{arith}
-use lib.ListN.{length, getD, take, drop, set, length-set, length-append, length-drop, drop-of-length-le, List·getD-append}
+use lib.ListN.{length, getD, take, drop, length-append, length-drop, drop-of-length-le}
 use lib.Pow.{pow-pos}
-use lib.Seq.{getD-set-same, getD-set-other, length-take-le, take-at, drop-at, take-all, getD-take, getD-drop, getD-append-add}
+use lib.Seq.{length-take-le, take-at, drop-at, take-all, getD-take, getD-drop}
 use Rattle.field.specs.Field.{sum, difference, product}
-use Rattle.field.specs.Size.{levelOf, sizeOf}
+use Rattle.field.specs.Size.{levelOf}
 use Rattle.field.specs.Symbol.{Symbols}
 use Rattle.field.proofs.Ring.{sum-lt, difference-lt}
 use Rattle.field.proofs.Size.{level-le, level-power}
 use Rattle.poly.specs.Tab.{tab}
-use Rattle.poly.proofs.Tab.{tab-length, tab-at}
+use Rattle.poly.proofs.Symbols.{append-symbols, tab-symbols}
 use Rattle.transform.specs.Halving.{turned, joined}
-use Rattle.transform.specs.Order.{halved}
+use Rattle.transform.specs.InPlace.{halved}
 use Rattle.transform.specs.Ready.{Ready}
-
--- Lists of 2 ^ k symbols
-
-pub ready-of : (k : ℕ) → k ≤ 16 → (s : List ℕ) → length s ≡ 2 ^ k → Symbols s → Ready s
-unfolding sizeOf
-ready-of k h s long small =
-    record { size = long ∙ ap (2 ^_) (sym (ap levelOf long ∙ level-power k h)); symbols = small }
+use Rattle.transform.proofs.Ready.{ready-of, ready-power}
 
 -- a list that is ready, of more than one number
 pub record Pair (d : List ℕ) : Type 0 where
@@ -35,39 +28,18 @@ pub record Pair (d : List ℕ) : Type 0 where
   pub whole : length d ≡ 2 ^ k + 2 ^ k
 
 pub pair-of : (d : List ℕ) → Ready d → 2 ≤ length d → Pair d
-unfolding sizeOf
 pair-of d ready many = at (levelOf (length d)) refl
   where
     at : (e : ℕ) → levelOf (length d) ≡ e → Pair d
-    at zero e = absurd (omega (arith, ready .size, ap (2 ^_) e))
+    at zero e = absurd (omega (arith, ready-power d ready, ap (2 ^_) e))
     at (suc k) e =
         record {
           k = k;
           few = omega (arith, level-le (length d));
           level = e;
-          half = omega (arith, ready .size, ap (2 ^_) e);
-          whole = omega (arith, ready .size, ap (2 ^_) e);
+          half = omega (arith, ready-power d ready, ap (2 ^_) e);
+          whole = omega (arith, ready-power d ready, ap (2 ^_) e);
         }
-
-pub append-symbols : (s t : List ℕ) → Symbols s → Symbols t → Symbols (s ++ t)
-append-symbols s t hs ht i h =
-    elim (decLt i (length s)) [
-      | yes less ↦ rw (List·getD-append s t 0 i less) (hs i less)
-      | no more ↦
-          subst (λ (v : ℕ). v < 65537)
-          (sym (ap (λ (n : ℕ). getD (s ++ t) n 0) {x = i} {y = length s + (i - length s)} (omega arith) ∙ getD-append-add s t (i - length s) 0))
-          (ht (i - length s) (omega (arith, length-append s t)))
-    ]
-
-pub set-symbols : (s : List ℕ) (i v : ℕ) → Symbols s → v < 65537 → Symbols (set s i v)
-set-symbols s i v small new x h =
-    elim (ℕ-discrete x i) [
-      | yes e ↦ rw (e, getD-set-same s i v 0 (omega (arith, length-set s i v))) new
-      | no other ↦ rw (getD-set-other s i x v 0 other) (small x (omega (arith, length-set s i v)))
-    ]
-
-tab-symbols : (n : ℕ) (f : ℕ → ℕ) → ((i : ℕ) → f i < 65537) → Symbols (tab n f)
-tab-symbols n f small i h = rw (tab-at n f i (omega (arith, tab-length n f))) (small i)
 
 joined-symbols : (r : ℕ) (e o : List ℕ) → Symbols (joined r e o)
 unfolding joined
@@ -75,8 +47,8 @@ joined-symbols r e o =
     append-symbols
     (tab (length e) (λ j. sum (getD e j 0) (turned r o j)))
     (tab (length e) (λ j. difference (getD e j 0) (turned r o j)))
-    (tab-symbols (length e) _ (λ j. sum-lt (getD e j 0) (turned r o j)))
-    (tab-symbols (length e) _ (λ j. difference-lt (getD e j 0) (turned r o j)))
+    (tab-symbols (length e) _ (λ j h. sum-lt (getD e j 0) (turned r o j)))
+    (tab-symbols (length e) _ (λ j h. difference-lt (getD e j 0) (turned r o j)))
 
 pub halved-symbols : (k r : ℕ) (a : List ℕ) → Symbols a → Symbols (halved k r a)
 unfolding halved
@@ -204,12 +176,12 @@ module _ (d : List ℕ) (ready : Ready d) (many : 2 ≤ length d) where
 
 -- a single number
 pub single-halved : (root : ℕ) (d : List ℕ) → Ready d → length d < 2 → d ≡ halved (levelOf (length d)) root d
-unfolding halved sizeOf
+unfolding halved
 single-halved root d ready one = ap (λ (l : ℕ). halved l root d) (sym none)
   where
     at : (e : ℕ) → levelOf (length d) ≡ e → e ≡ 0
     at zero e = refl
-    at (suc k) e = absurd (omega (arith, ready .size, ap (2 ^_) e, pow-pos k))
+    at (suc k) e = absurd (omega (arith, ready-power d ready, ap (2 ^_) e, pow-pos k))
 
     none : levelOf (length d) ≡ 0
     none = at (levelOf (length d)) refl

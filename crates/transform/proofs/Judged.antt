@@ -16,7 +16,8 @@ use Rattle.field.specs.declared.refusal.Refusal.{Refusal}
 use Rattle.field.specs.declared.refusal.Refusal.the-variants.{Shape, Room, Value}
 use Rattle.field.proofs.Refusals.{result-no-refusal}
 use Rattle.field.proofs.Values.{all-symbols}
-use Rattle.transform.specs.Calls.{badLength, judged, left, leaves}
+use Rattle.transform.specs.Calls.{judged, left, leaves}
+use Rattle.transform.specs.Lengths.{badLength}
 use Rattle.transform.specs.Ready.{Ready}
 
 -- a check that did not refuse

@@ -1,3 +1,4 @@
+pub mod Ready
 pub mod Sums
 pub mod Round
 pub mod Undo

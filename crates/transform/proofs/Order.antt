@@ -17,7 +17,8 @@ use Rattle.poly.specs.Tab.{tab}
 use Rattle.poly.proofs.Parts.{parts-length, parts-at}
 use Rattle.poly.proofs.Tab.{tab-length, tab-ext, tab-append, tab-getD}
 use Rattle.transform.specs.Halving.{joined, halving}
-use Rattle.transform.specs.Order.{reversed, arranged, halved}
+use Rattle.transform.specs.InPlace.{halved}
+use Rattle.transform.specs.Order.{reversed, arranged}
 
 pub reversed-none : (i : ℕ) → reversed 0 i ≡ 0
 unfolding reversed

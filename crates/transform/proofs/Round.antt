@@ -10,7 +10,7 @@ use lib.ListN.{length, getD}
 use Rattle.field.specs.Congruence.{_≈_}
 use Rattle.field.proofs.Congruence.{≈-refl, ≈-of, _∘≈_, _·≈_, mul-≈, pow-≈, mod-≈, comb}
 use Rattle.field.proofs.Fermat.{no-divisors}
-use Rattle.field.proofs.Powers.{pow-times, mul-pow, one-pow}
+use Rattle.field.proofs.Powers.{pow-times, mul-pow, full-power}
 use Rattle.poly.specs.Sum.{total}
 use Rattle.poly.specs.Value.{value}
 use Rattle.poly.proofs.Sum.{total-ext, total-≈, total-scale, total-swap, total-single}
@@ -90,9 +90,5 @@ round r q n o a e l h =
     ∘≈ getD a l 0 ·≈ geometric-one n (r ^ l * q ^ l) (o .meet l)
     ∘≈ ≈-of (mul-comm (getD a l 0) n)
   where
-    turns : (x i : ℕ) → x ^ n ≈ 1 → (x ^ i) ^ n ≈ 1
-    turns x i full =
-        ≈-of (sym (pow-times x i n) ∙ ap (x ^_) (mul-comm i n) ∙ pow-times x n i) ∘≈ pow-≈ full i ∘≈ ≈-of (one-pow i)
-
     full-turn : (i : ℕ) → (r ^ i * q ^ l) ^ n ≈ 1
-    full-turn i = ≈-of (mul-pow (r ^ i) (q ^ l) n) ∘≈ mul-≈ (turns r i (o .full)) (turns q l (o .full'))
+    full-turn i = ≈-of (mul-pow (r ^ i) (q ^ l) n) ∘≈ mul-≈ (full-power r n i (o .full)) (full-power q n l (o .full'))

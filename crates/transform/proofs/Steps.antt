@@ -5,21 +5,22 @@ use mathlib.Core.List.{List}
 use Prim.Native.Nat.{ℕ, zero, suc, _^_, _≤_}
 use native.Mathlib.Omega.{arith}
 use lib.ListN.{length, getD}
-use lib.Pow.{pow-mono}
 use Rattle.field.specs.Congruence.{_≈_}
 use Rattle.field.specs.Field.{product, inverse}
 use Rattle.field.specs.Points.{rootOf}
 use Rattle.field.specs.Roots.{root}
-use Rattle.field.specs.Size.{levelOf, sizeOf}
+use Rattle.field.specs.Size.{levelOf}
 use Rattle.field.proofs.Congruence.{≈-sym, _+≈_, _·≈_, comb}
 use Rattle.field.proofs.Roots.{root-half}
 use Rattle.field.proofs.Size.{level-le}
 use Rattle.poly.specs.Tab.{tab}
 use Rattle.poly.proofs.Tab.{tab-length, tab-at}
-use Rattle.transform.specs.Order.{reversed, arranged, halved}
+use Rattle.transform.specs.InPlace.{halved}
+use Rattle.transform.specs.Order.{reversed, arranged}
 use Rattle.transform.specs.Ready.{Ready}
 use Rattle.transform.specs.Transform.{transformOf, inverseOf}
 use Rattle.transform.proofs.Order.{reversed-lt, arranged-in-order, halved-is}
+use Rattle.transform.proofs.Ready.{ready-power}
 use Rattle.transform.proofs.Sums.{values, values-length, Halfway, halving-values}
 use Rattle.transform.proofs.Undo.{opposite, transform-values, inverse-values}
 
@@ -34,11 +35,7 @@ inverse-halfway (suc k) h =
 
 module _ (d : List ℕ) (ready : Ready d) where
   size : length d ≡ 2 ^ levelOf (length d)
-  unfolding sizeOf
-  size = ready .size
-
-  pub short : length d ≤ 65536
-  short = omega (arith, size, pow-mono (level-le (length d)))
+  size = ready-power d ready
 
   arranged-length : length (arranged d) ≡ length d
   unfolding arranged

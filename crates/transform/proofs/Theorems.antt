@@ -22,19 +22,20 @@ use Rattle.field.specs.Values.{firstAbove}
 use Rattle.field.proofs.Congruence.{≈-sym, mod-≈}
 use Rattle.field.proofs.Refusals.{told-outcome-one}
 use Rattle.field.proofs.Ring.{product-lt}
-use Rattle.field.proofs.Size.{level-power}
+use Rattle.field.proofs.Size.{level-power, size-power, size-of-power}
 use Rattle.field.proofs.Values.{all-symbols}
 use Rattle.poly.specs.Sum.{total}
 use Rattle.poly.specs.Tab.{tab}
 use Rattle.poly.specs.Value.{value}
 use Rattle.poly.proofs.Tab.{tab-at}
 use Rattle.poly.proofs.Value.{value-≈}
-use Rattle.transform.specs.Calls.{badLength, Leaves}
+use Rattle.transform.specs.Calls.{Leaves}
+use Rattle.transform.specs.Lengths.{badLength}
 use Rattle.transform.specs.Theorems.{HalvingIsSum, HalvedIsHalving, TransformIsValue, TransformSymbols, InverseUndoes, TransformUndoes, WorkedNumbers, GoodLengths, Settled, TransformSettled, InverseSettled}
 use Rattle.transform.specs.Transform.{sums, transformOf, inverseOf}
-use Rattle.transform.proofs.Halves.{ready-of}
 use Rattle.transform.proofs.Judged.{or-false, good-size}
 use Rattle.transform.proofs.Order.{arranged-in-order, halved-is}
+use Rattle.transform.proofs.Ready.{ready-of}
 use Rattle.transform.proofs.Steps.{root-halfway}
 use Rattle.transform.proofs.Sums.{values, values-at, halving-values}
 use Rattle.transform.proofs.Undo as Undo
@@ -95,10 +96,6 @@ worked-numbers =
       p4 = ap inverseOf (sym third) ∙ inverse-undoes 2 (lit≤ tt) (1 ∷ 2 ∷ 0 ∷ 0 ∷ []) refl four;
     }
 
-size-is : (n : ℕ) → sizeOf n ≡ 2 ^ levelOf n
-unfolding sizeOf
-size-is n = refl
-
 few-levels : (e : ℕ) → 2 ^ e ≤ longest → e ≤ 16
 unfolding longest
 few-levels e few = elim (decLe e 16) [ yes le ↦ le | no gt ↦ absurd (omega (arith, pow-lt {i = 16} {j = e} (omega arith))) ]
@@ -110,7 +107,7 @@ good-lengths N = (forth, λ p. back (p .1 .0) (p .0) (p .1 .1))
     forth : badLength N ≡ false → (N ≤ longest) × ((e : ℕ) × (N ≡ 2 ^ e))
     forth good = (
       ltb-false longest N (or-false (eqb N 0) (ltb longest N) (or-false (eqb N 0 || ltb longest N) _ good .0) .1),
-      (levelOf N, good-size N good ∙ size-is N),
+      (levelOf N, good-size N good ∙ size-power N),
     )
 
     back : (e : ℕ) → N ≤ longest → N ≡ 2 ^ e → badLength N ≡ false
@@ -118,7 +115,7 @@ good-lengths N = (forth, λ p. back (p .1 .0) (p .0) (p .1 .1))
         simp (
           ne-eqb N 0 (λ none. omega (arith, pow-pos e)),
           le-ltb longest N few,
-          eq-eqb (sizeOf N) N (ap sizeOf is ∙ size-is (2 ^ e) ∙ ap (2 ^_) (level-power e (few-levels e (omega (arith, is)))) ∙ sym is),
+          eq-eqb (sizeOf N) N (ap sizeOf is ∙ size-of-power e (few-levels e (omega (arith, is))) ∙ sym is),
         )
 
 settled : (left : Leaves) → Settled left

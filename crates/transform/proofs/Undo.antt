@@ -6,12 +6,12 @@ use Prim.Native.Nat.{ℕ, zero, suc, _*_, _^_, _<_, _≤_}
 use native.Mathlib.Nat.{mul-comm, pow-suc, mod-eq-of-lt, not-suc-le-zero}
 use native.Mathlib.Omega.{arith}
 use lib.ListN.{length, getD}
-use lib.Pow.{pow-pos, pow-mono}
+use lib.Pow.{pow-pos}
 use Rattle.field.specs.Congruence.{_≈_}
 use Rattle.field.specs.Field.{product, inverse}
 use Rattle.field.specs.Points.{rootOf}
 use Rattle.field.specs.Roots.{root}
-use Rattle.field.specs.Size.{levelOf, sizeOf}
+use Rattle.field.specs.Size.{levelOf}
 use Rattle.field.proofs.Congruence.{≈-refl, ≈-of, ≈-sym, _∘≈_, _+≈_, _·≈_, mul-≈, pow-≈, mod-≈, comb, reduced}
 use Rattle.field.proofs.Fermat.{inverse-≈}
 use Rattle.field.proofs.Powers.{mul-pow, one-pow}
@@ -26,6 +26,7 @@ use Rattle.poly.proofs.Tab.{tab-length, tab-ext, tab-getD}
 use Rattle.poly.proofs.Value.{plain-sum, value-tab}
 use Rattle.transform.specs.Ready.{Ready}
 use Rattle.transform.specs.Transform.{transformOf, inverseOf}
+use Rattle.transform.proofs.Ready.{ready-power, ready-short}
 use Rattle.transform.proofs.Round.{Opposite, round}
 use Rattle.transform.proofs.Sums.{values, values-at, values-length, sum-value, sums-values}
 
@@ -109,8 +110,8 @@ module _ (a : List ℕ) (ready : Ready a) where
   c = inverse n
 
   size : n ≡ 2 ^ levelOf n
-  unfolding n sizeOf
-  size = ready .size
+  unfolding n
+  size = ready-power a ready
 
   opposed : Opposite r q n
   unfolding r q rootOf
@@ -118,8 +119,8 @@ module _ (a : List ℕ) (ready : Ready a) where
 
   -- 1/N times N is one
   unit : c * n ≈ 1
-  unfolding c
-  unit = ≈-of (mul-comm (inverse n) n) ∘≈ inverse-≈ n (λ none. omega (arith, none .mods, size, pow-pos (levelOf n), pow-mono (level-le n)))
+  unfolding c n
+  unit = ≈-of (mul-comm (inverse n) n) ∘≈ inverse-≈ n (λ none. omega (arith, none .mods, size, pow-pos (levelOf n), ready-short a ready))
 
   undone : (x y : ℕ) → x ≈ n * y → c * x ≈ y
   undone x y e = c ·≈ e ∘≈ comb (y ·≈ unit) 0 0 (omega arith)

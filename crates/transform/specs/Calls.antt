@@ -1,19 +1,14 @@
 -- What a caller of the transform and of its inverse is answered, and what the two lent lists hold afterwards.
-use mathlib.Core.Bool.{Bool, true, false, _||_, not}
+use mathlib.Core.Bool.{Bool, true, false}
 use mathlib.Core.List.{List, [], _++_}
 use Prim.Native.Nat.{ℕ}
-use lib.Dec.{ltb, eqb}
+use lib.Dec.{ltb}
 use lib.ListN.{length, drop, replicate}
 use Rattle.field.specs.Refusals.{Answer, result, refusal, refuseIf}
-use Rattle.field.specs.Shape.{longest}
-use Rattle.field.specs.Size.{sizeOf}
 use Rattle.field.specs.Values.{refuseAbove}
 use Rattle.field.specs.declared.refusal.Refusal.the-variants.{Shape, Room}
+use Rattle.transform.specs.Lengths.{badLength}
 use Rattle.transform.specs.Transform.{transformOf, inverseOf}
-
--- SHAPE: "a transform's length is 0, above 4096 or no power of two"
-unfoldable pub badLength : ℕ → Bool
-badLength N = eqb N 0 || ltb longest N || not (eqb (sizeOf N) N)
 
 -- the checks, in the order of the numbers: SHAPE, ROOM, VALUE
 unfoldable pub judged : List ℕ → ℕ → Answer

@@ -4,11 +4,9 @@ use mathlib.Core.Bool.{cond}
 use mathlib.Core.List.{List}
 use Prim.Native.Nat.{ℕ, zero, suc, _+_, _*_, _^_, _/_, _%_}
 use lib.Dec.{ltb}
-use lib.ListN.{length, getD, take, drop, set}
-use Rattle.field.specs.Field.{product}
+use lib.ListN.{length, getD, set}
 use Rattle.field.specs.Size.{levelOf}
 use Rattle.poly.specs.Tab.{tab}
-use Rattle.transform.specs.Halving.{joined}
 
 -- i with its `level` binary digits in reverse
 unfoldable pub reversed : ℕ → ℕ → ℕ
@@ -19,13 +17,9 @@ reversed (suc level) i = i % 2 * 2 ^ level + reversed level (i / 2)
 pub record IsNext (r place size : ℕ) : Type 0 where
   pub next : (k i : ℕ) → size ≡ 2 ^ k → place ≡ reversed k i → r ≡ reversed k (i + 1)
 
+-- the list in that order
 unfoldable pub arranged : List ℕ → List ℕ
 arranged a = tab (length a) (λ i. getD a (reversed (levelOf (length a)) i) 0)
-
--- halving, of a list in that order: the even places are its front half
-unfoldable pub halved : ℕ → ℕ → List ℕ → List ℕ
-halved zero r a = a
-halved (suc level) r a = joined r (halved level (product r r) (take (2 ^ level) a)) (halved level (product r r) (drop (2 ^ level) a))
 
 -- the numbers at i and j change places where i is the lower one
 unfoldable pub exchanged : List ℕ → ℕ → ℕ → List ℕ

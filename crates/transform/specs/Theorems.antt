@@ -12,9 +12,11 @@ use Rattle.field.specs.Shape.{longest}
 use Rattle.field.specs.Symbol.{Symbols}
 use Rattle.field.specs.declared.refusal.Outcome.{Outcome}
 use Rattle.poly.specs.Value.{value}
-use Rattle.transform.specs.Calls.{badLength, Leaves, left, transformLeaves, inverseLeaves}
+use Rattle.transform.specs.Calls.{Leaves, left, transformLeaves, inverseLeaves}
+use Rattle.transform.specs.Lengths.{badLength}
 use Rattle.transform.specs.Halving.{halving}
-use Rattle.transform.specs.Order.{arranged, halved}
+use Rattle.transform.specs.InPlace.{halved}
+use Rattle.transform.specs.Order.{arranged}
 use Rattle.transform.specs.Transform.{transformOf, inverseOf}
 
 -- The transform is the plain sum: e runs over the sizes 1, 2, 4 up to 65536 of the table of roots

@@ -12,16 +12,17 @@ use field::inner::root;
 use field::inner::size;
 use field::inner::sum;
 ghost use mathlib.Core.Path.{_≡_};
-ghost use Prim.Native.Nat.{_/_, _%_, _<_};
-ghost use lib.ListN.{length, getD, take, drop, replicate};
+ghost use Prim.Native.Nat.{_%_, _<_};
+ghost use lib.ListN.{length, getD, replicate};
 ghost use Rattle.field.specs.Field.{product};
 ghost use Rattle.field.specs.Refusals.{toldOutcome};
 ghost use Rattle.field.specs.Size.{levelOf, sizeOf};
 ghost use Rattle.field.specs.Symbol.{Symbols};
 ghost use Rattle.poly.specs.Tab.{tab};
-ghost use Rattle.transform.specs.Calls.{badLength, judged};
-ghost use Rattle.transform.specs.Halving.{joined};
-ghost use Rattle.transform.specs.Order.{IsNext, arranged, exchanged, halved};
+ghost use Rattle.transform.specs.Calls.{judged};
+ghost use Rattle.transform.specs.Lengths.{badLength};
+ghost use Rattle.transform.specs.InPlace.{joinedHalves, halved};
+ghost use Rattle.transform.specs.Order.{IsNext, arranged, exchanged};
 ghost use Rattle.transform.specs.Ready.{Ready};
 ghost use Rattle.transform.specs.Transform.{transformOf, inverseOf};
 
@@ -69,7 +70,7 @@ fn arrange(list: &mut [u32])
 // The transforms of the halves lie side by side; turn is the power j of the root.
 fn join(list: &mut [u32], root: u32)
     requires { ⌜ (length (now list) % 2 ≡ 0) × Symbols (now list) ⌝ }
-    ensures { λ _. ⌜ now (list .exit) ≡ joined root (take (length (now (list .entry)) / 2) (now (list .entry))) (drop (length (now (list .entry)) / 2) (now (list .entry))) ⌝ }
+    ensures { λ _. ⌜ now (list .exit) ≡ joinedHalves root (now (list .entry)) ⌝ }
 {
     let half = list.len() / 2;
     let mut turn: u32 = 1;

@@ -7,7 +7,7 @@ use borrow.Author.Needs.{needs}
 use borrow.Author.Tests.{eq-eqb, ne-eqb, lt-ltb, le-ltb}
 use lib.Dec.{eqb}
 use Rattle.field.specs.Shape.{longest}
-use Rattle.transform.specs.Calls.{badLength}
+use Rattle.transform.specs.Lengths.{badLength}
 use Rattle.transform.proofs.inner.bad_length.Statement.{statement}
 use Rattle.transform.proofs.inner.bad_length.Tie as tie
 

@@ -7,7 +7,8 @@ use Rattle.field.specs.Field.{inverse}
 use Rattle.field.specs.Points.{rootOf}
 use Rattle.field.specs.Roots.{root}
 use Rattle.transform.specs.Ready.{Ready}
-use Rattle.transform.proofs.Steps.{short, arranged-ready, inverse-steps}
+use Rattle.transform.proofs.Ready.{ready-short}
+use Rattle.transform.proofs.Steps.{arranged-ready, inverse-steps}
 use Rattle.transform.proofs.inner.inverse.Statement.{statement}
 use Rattle.transform.proofs.inner.inverse.Tie as tie
 
@@ -19,7 +20,7 @@ inverse-spec =
     (λ c κs. search needs)
     (λ c κs. search needs)
     (λ c κs. search needs)
-    (λ c. omega (arith, short _ (c .before .before .before .before .pre)))
+    (λ c. omega (arith, ready-short _ (c .before .before .before .before .pre)))
     (λ c κs. search needs)
     (λ c κs. c .before .before .before .before .before .before .pre .size)
     (λ c κs.

@@ -10,8 +10,8 @@ use lib.ListN.{length, getD, take, drop, set, length-set}
 use Rattle.field.specs.Field.{sum, difference, product, power}
 use Rattle.field.specs.Symbol.{IsSymbol, Symbols}
 use Rattle.field.proofs.Ring.{power-zero, power-step}
+use Rattle.poly.proofs.Symbols.{set-symbols}
 use Rattle.transform.specs.Halving.{turned, joined}
-use Rattle.transform.proofs.Halves.{set-symbols}
 use Rattle.transform.proofs.Joining.{joining, joining-none, joining-even, joining-odd, joining-more, joining-all}
 use Rattle.transform.proofs.inner.join.Statement.{statement}
 use Rattle.transform.proofs.inner.join.Tie as tie

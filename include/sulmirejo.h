@@ -69,6 +69,31 @@ uint32_t sulmirejo_transform(uint32_t *list, size_t list_len, uint32_t *work, si
  * other. Working space, refusals and what the buffers hold afterwards are the transform's. */
 uint32_t sulmirejo_inverse(uint32_t *list, size_t list_len, uint32_t *work, size_t work_len, size_t *number);
 
+/* The code word of a message: out[i] = s(r^i) modulo 65537 for i = 0 .. n-1, where s(x) = message[0] + message[1]*x + .. +
+ * message[k-1]*x^(k-1), N is the smallest power of two that is at least n, and r the root of order N, 3^(65536/N) modulo 65537. Any k of the n
+ * symbols, with their positions i, bring the message back. The output is n numbers, the working space 2*N, whatever they held.
+ *
+ * Refusals: SHAPE where k is 0 or above n, or n above 4096; LENGTH where message_len is not k; ROOM where out_len is below n or work_len
+ * below 2*N; VALUE where a number of the message is above 65536, with the index of the first such number as its place.
+ * Afterwards: on success the output's first n numbers are the code word and the later ones as they were, the first 2*N numbers of the working
+ * space are zero and the later ones as they were. On a refusal output and working space are as they were. */
+uint32_t sulmirejo_encode(size_t k, size_t n, const uint32_t *message, size_t message_len, uint32_t *out, size_t out_len, uint32_t *work,
+                          size_t work_len, size_t *number);
+
+/* The message of which values[j] is the symbol at positions[j] of the code word, for every j: all m = positions_len symbols are compared, also
+ * where k of them would do. Positions may come in any order. Where no message fits all m, the answer is DISAGREE: with at most m - k altered
+ * values the result is the message that was sent or DISAGREE, never another. The output is k numbers, the working space 4*N, N being the
+ * smallest power of two that is at least n, whatever they held.
+ *
+ * Refusals: SHAPE where k is 0 or above n, or n above 4096; LENGTH where values_len is not positions_len; ROOM where out_len is below k or
+ * work_len below 4*N; FEW where positions_len is below k; POSITION where a position is n or more, REPEAT where a position stands earlier in
+ * the list, VALUE where a value is above 65536, each with the first such index as its place; DISAGREE, place 0, where no message fits.
+ * Afterwards: on success the output's first k numbers are the message and the later ones as they were, the first 4*N numbers of the working
+ * space are zero and the later ones as they were. On DISAGREE the first 4*N numbers of the working space are zero, the later ones and the
+ * output as they were. On any other refusal output and working space are as they were. */
+uint32_t sulmirejo_decode(size_t k, size_t n, const uint32_t *positions, size_t positions_len, const uint32_t *values, size_t values_len,
+                          uint32_t *out, size_t out_len, uint32_t *work, size_t work_len, size_t *number);
+
 #ifdef __cplusplus
 }
 #endif

@@ -1,35 +1,14 @@
 /* The transform, its inverse and the points, called from C and held against the plain sums, which are worked out here by code of its own: no
  * table of roots and no halving. Guard cells stand round every buffer, and every lent cell holds junk before each call. */
+#include "lent.h"
 #include "sulmirejo.h"
 
 #include <stdio.h>
-#include <stdlib.h>
 #include <string.h>
 
-enum { LONGEST = 4096, TWICE = 8192, GUARD = 16 };
+enum { LONGEST = 4096, TWICE = 8192 };
 
 static const uint32_t P = 65537;
-static unsigned long checks;
-
-static void expect(int held, const char *what, size_t size, size_t at)
-{
-    checks++;
-    if (!held) {
-        printf("FAILED: %s, size %zu, at %zu\n", what, size, at);
-        exit(1);
-    }
-}
-
-/* Numbers that look random and are the same in each run. */
-static uint64_t state = 20261115;
-
-static uint32_t junk(void)
-{
-    state ^= state << 13;
-    state ^= state >> 7;
-    state ^= state << 17;
-    return (uint32_t)(state >> 16);
-}
 
 /* The field, by plain arithmetic. */
 static uint32_t times(uint32_t a, uint32_t b)
@@ -76,60 +55,14 @@ static void plain_sums(const uint32_t *a, size_t size, uint32_t r, uint32_t fact
     }
 }
 
-/* A lent buffer with guard cells on both sides, and what it held before the call. */
-struct lent {
-    uint32_t cells[GUARD + TWICE + GUARD];
-    uint32_t before[GUARD + TWICE + GUARD];
-};
-
+/* Each has room for twice the longest list, whatever part of it a call is told of: so a write far behind its end is seen too. */
 static struct lent list, work;
-
-static uint32_t *lend(struct lent *buffer)
-{
-    return buffer->cells + GUARD;
-}
-
-static void fill_with_junk(struct lent *buffer)
-{
-    for (size_t i = 0; i < GUARD + TWICE + GUARD; i++)
-        buffer->cells[i] = junk();
-}
-
-static void remember(struct lent *buffer)
-{
-    memcpy(buffer->before, buffer->cells, sizeof buffer->cells);
-}
-
-/* All cells but `count` from the front of the lent part are as they were. */
-static void expect_untouched_after(const struct lent *buffer, size_t count, const char *what)
-{
-    size_t from = GUARD + count, behind = sizeof buffer->cells - from * sizeof *buffer->cells;
-    expect(memcmp(buffer->cells, buffer->before, GUARD * sizeof *buffer->cells) == 0, what, count, 0);
-    expect(memcmp(buffer->cells + from, buffer->before + from, behind) == 0, what, count, from);
-}
-
-/* The number that a call writes, with guards. */
-static size_t numbers[3];
-
-static size_t *lend_number(void)
-{
-    numbers[0] = 77;
-    numbers[1] = 78;
-    numbers[2] = 79;
-    return numbers + 1;
-}
-
-static void expect_number(size_t place, size_t size)
-{
-    expect(numbers[1] == place, "number", size, numbers[1]);
-    expect(numbers[0] == 77 && numbers[2] == 79, "guards of the number", size, 0);
-}
 
 typedef uint32_t call(uint32_t *, size_t, uint32_t *, size_t, size_t *);
 
 static void expect_result(call *function, const char *name, size_t size, size_t room, const uint32_t *expected)
 {
-    fill_with_junk(&work);
+    fill_with_junk(&work, TWICE);
     remember(&list);
     remember(&work);
     expect(function(lend(&list), size, lend(&work), room, lend_number()) == SULMIREJO_OK, name, size, 0);
@@ -159,7 +92,7 @@ static void expect_refusal(size_t size, size_t room, uint32_t refusal, size_t pl
 static void try_list(const uint32_t *symbols, size_t size, size_t room, uint32_t root, uint32_t root_over, uint32_t part)
 {
     static uint32_t sums[LONGEST];
-    fill_with_junk(&list);
+    fill_with_junk(&list, TWICE);
     memcpy(lend(&list), symbols, size * sizeof *symbols);
     plain_sums(symbols, size, root, 1, sums);
     expect_result(sulmirejo_transform, "transform", size, room, sums);
@@ -186,8 +119,8 @@ static void try_size(size_t size)
 
 static void good_list(size_t size)
 {
-    fill_with_junk(&list);
-    fill_with_junk(&work);
+    fill_with_junk(&list, TWICE);
+    fill_with_junk(&work, TWICE);
     for (size_t i = 0; i < size; i++)
         lend(&list)[i] = junk() % P;
 }
@@ -280,6 +213,6 @@ int main(void)
     }
     try_shapes();
     try_points();
-    printf("transform: %lu checks passed\n", checks);
+    printf("transform: %lu checks passed\n", checks_passed());
     return 0;
 }

@@ -8,4 +8,6 @@ pub mod First
 pub mod Values
 pub mod Size
 pub mod Refusals
+pub mod Leaves
+pub mod Shape
 pub mod Theorems

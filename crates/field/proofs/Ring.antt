@@ -32,6 +32,10 @@ pub inverse-lt : (x : ℕ) → inverse x < 65537
 unfolding inverse
 inverse-lt x = power-lt x 65535
 
+pub sum-≈ : (a b : ℕ) → sum a b ≈ a + b
+unfolding sum
+sum-≈ a b = mod-≈ (a + b)
+
 pub difference-≈ : (a b : ℕ) → difference a b ≈ a + 65536 * b
 unfolding difference
 difference-≈ a b = mod-≈ (a + 65536 * b)

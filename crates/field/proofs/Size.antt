@@ -55,3 +55,7 @@ level-size n = level-power (levelOf n) (level-le n)
 -- a power of two is its own N
 pub size-of-power : (e : ℕ) → e ≤ 16 → sizeOf (2 ^ e) ≡ 2 ^ e
 size-of-power e h = size-power (2 ^ e) ∙ ap (2 ^_) (level-power e h)
+
+pub size-le : (n : ℕ) → sizeOf n ≤ 65536
+unfolding sizeOf
+size-le n = pow-mono (level-le n)

@@ -1,24 +1,26 @@
 -- What the search for a value above 65536 tells: a refusal by VALUE where it found one, symbols throughout where it found none.
 -- Assumes nothing.
-use mathlib.Core.Path.{_≡_, ap, _∙_}
+use mathlib.Core.Path.{_≡_, refl, ap, _∙_}
 use mathlib.Core.List.{List, [], _∷_}
 use Prim.Native.Nat.{ℕ, _<_, _≤_, suc-le-suc}
-use native.Mathlib.Nat.{le-of-eq, le-trans, lt-of-lt-of-le}
-use borrow.Author.Tests.{lt-ltb, le-ltb, ltb-false}
+use native.Mathlib.Nat.{le-of-eq, le-of-suc-le-suc, le-trans, lt-of-lt-of-le}
+use borrow.Author.Tests.{ltb-false, le-ltb}
 use lib.Dec.{ltb, lit<}
 use lib.ListN.{length, getD}
 use Rattle.field.specs.Refusals.{Answer, result, refused}
+use Rattle.field.specs.Symbol.{Symbols}
 use Rattle.field.specs.Values.{firstAbove, refuseAbove}
 use Rattle.field.specs.declared.refusal.Refusal.the-variants.{Value}
-use Rattle.field.proofs.First.{first-before}
+use Rattle.field.proofs.First.{first-before, first-none}
+use Rattle.field.proofs.Leaves.{stops-at, passes-all}
 
 pub above-found : (values : List ℕ) (later : Answer) {x : ℕ} → x ≡ firstAbove values → x < length values
     → refused (Value x) ≡ refuseAbove values later
-above-found values later {x} e h = rw (← e, lt-ltb x (length values) h)
+above-found values later e h = stops-at Value (firstAbove values) (length values) later e h
 
 pub above-none : (values : List ℕ) (later : Answer) {x : ℕ} → x ≡ firstAbove values → length values ≤ x
     → later ≡ refuseAbove values later
-above-none values later {x} e h = rw (← e, le-ltb x (length values) h)
+above-none values later e h = passes-all Value (firstAbove values) (length values) later e h refl
 
 -- the same where the result is one number
 pub above-none-value : (values : List ℕ) {x r v : ℕ} → x ≡ firstAbove values → length values ≤ x → r ≡ v
@@ -31,6 +33,11 @@ unfolding firstAbove
 all-symbols values e h i l =
     suc-le-suc (ltb-false 65536 (getD values i 0)
     (first-before (length values) (λ j. ltb 65536 (getD values j 0)) i (lt-of-lt-of-le l (le-trans h (le-of-eq e)))))
+
+-- and where all are symbols it finds none
+pub none-above : (values : List ℕ) → Symbols values → firstAbove values ≡ length values
+unfolding firstAbove
+none-above values small = first-none (length values) _ (λ i l. le-ltb 65536 _ (le-of-suc-le-suc (small i l)))
 
 pub both-symbols : (a b : ℕ) {x : ℕ} → x ≡ firstAbove (a ∷ b ∷ []) → 2 ≤ x → (a < 65537) × (b < 65537)
 both-symbols a b e h = (all-symbols (a ∷ b ∷ []) e h 0 (lit< tt), all-symbols (a ∷ b ∷ []) e h 1 (lit< tt))

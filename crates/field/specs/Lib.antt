@@ -3,6 +3,7 @@ pub mod Symbol
 pub mod Congruence
 pub mod Roots
 pub mod Refusals
+pub mod Leaves
 pub mod First
 pub mod Values
 pub mod Operations

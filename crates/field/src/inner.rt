@@ -114,6 +114,13 @@ pub fn size(n: usize) -> usize
     1 << level(n)
 }
 
+// In lent lists a position stands as a bare number.
+pub fn position(number: u32) -> Position
+    ensures { λ r. ⌜ r .0 ≡ number ⌝ }
+{
+    Position(number as usize)
+}
+
 // The one way from a position to a point; size is N.
 pub fn point(position: Position, size: usize) -> Point
     ensures { λ r. ⌜ IsSymbol (r .0) (pointOf size (position .0)) ⌝ }

@@ -5,8 +5,8 @@ use mathlib.Core.List.{List, [], _∷_, _++_}
 use Prim.Native.Nat.{ℕ, suc, _+_, _-_, _*_, _^_, _<_, _≤_, suc-le-suc}
 use native.Mathlib.Omega.{arith}
 use lib.Dec.{lit<}
-use lib.ListN.{length, getD, take, replicate, length-replicate, drop-of-length-le}
-use lib.Seq.{split-at, length-take-le}
+use lib.ListN.{length, take, replicate, length-replicate}
+use lib.Seq.{length-take-le}
 use Rattle.field.specs.Congruence.{_≈_}
 use Rattle.field.specs.Field.{power}
 use Rattle.field.specs.Roots.{root, HasOrder}
@@ -23,14 +23,8 @@ use Rattle.poly.proofs.Counting.{unique}
 use Rattle.poly.proofs.Distinct.{distinct-tab}
 use Rattle.poly.proofs.Every.{every-map, every-both, every-left, every-tab, every-replicate}
 use Rattle.poly.proofs.Products.{vanishing-length, vanishing-symbols, vanishing-roots, vanishing-last}
-use Rattle.poly.proofs.Tab.{tab-length}
+use Rattle.poly.proofs.Tab.{tab-length, with-last}
 use Rattle.poly.proofs.Value.{value-append, value-zeros}
-
--- a list is what stands before its last number, and that number
-with-last : (s : List ℕ) (n : ℕ) → length s ≡ suc n → s ≡ take n s ++ (getD s n 0 ∷ [])
-with-last s n size =
-    split-at s n 0 (omega arith)
-    ∙ ap (λ (rest : List ℕ). take n s ++ (getD s n 0 ∷ rest)) (drop-of-length-le s {i = suc n} (omega arith))
 
 module _ (n : ℕ) (zs : List ℕ) (size : length zs ≡ suc n) where
   -- the coefficients below X^N

@@ -1,8 +1,9 @@
--- A polynomial has no more zeros than its degree, so that k coefficients are settled by their values at k distinct points.
+-- A polynomial has no more zeros than its degree, so that k coefficients are settled by their values at k or more distinct points.
 -- Assumes nothing.
 use mathlib.Core.Path.{_≡_, refl, sym, ap, _∙_}
 use mathlib.Core.List.{List, [], _∷_}
-use Prim.Native.Nat.{ℕ, suc, _+_, _*_, _<_}
+use Prim.Native.Nat.{ℕ, suc, _+_, _*_, _<_, _≤_}
+use native.Mathlib.Nat.{le-of-eq}
 use native.Mathlib.Omega.{arith}
 use lib.ListN.{length}
 use Rattle.field.specs.Congruence.{_≈_}
@@ -26,7 +27,7 @@ quotient-root : (a : ℕ) (s : List ℕ) (x y : ℕ) → value (a ∷ s) x ≈ 0
 quotient-root a s x y zero-x apart zero-y =
     cancel x y (value (quotient a s x) y) apart (comb (zero-x +≈ ≈-sym zero-y) 0 0 (omega (arith, divided a s x y)))
 
-pub vanishing-is-zero : (xs s : List ℕ) → length s ≡ length xs → Distinct xs → Every (λ x. value s x ≈ 0) xs
+pub vanishing-is-zero : (xs s : List ℕ) → length s ≤ length xs → Distinct xs → Every (λ x. value s x ≈ 0) xs
     → Every (_≈ 0) s
 unfolding Distinct Every
 vanishing-is-zero [] [] size apart none = tt
@@ -67,9 +68,14 @@ less-zero (a ∷ s) (b ∷ t) size low-s low-t none =
       less-zero s t (omega arith) (low-s .1) (low-t .1) (none .1),
     )
 
+pub unique-among : (xs s t : List ℕ) → length s ≡ length t → length s ≤ length xs → Distinct xs → Every (_< 65537) s
+    → Every (_< 65537) t → Every (λ x. value s x ≈ value t x) xs → s ≡ t
+unique-among xs s t size enough apart low-s low-t same =
+    less-zero s t size low-s low-t
+    (vanishing-is-zero xs (less s t) (omega (arith, less-length s t)) apart
+    (every-map (λ x h. ≈-of (less-value s t x size) ∘≈ comb h 0 (value t x) (omega arith)) xs same))
+
+-- the same where the points are as many as the coefficients
 pub unique : (xs s t : List ℕ) → length s ≡ length xs → length t ≡ length xs → Distinct xs → Every (_< 65537) s
     → Every (_< 65537) t → Every (λ x. value s x ≈ value t x) xs → s ≡ t
-unique xs s t size-s size-t apart low-s low-t same =
-    less-zero s t (size-s ∙ sym size-t) low-s low-t
-    (vanishing-is-zero xs (less s t) (less-length s t ∙ size-s) apart
-    (every-map (λ x h. ≈-of (less-value s t x (size-s ∙ sym size-t)) ∘≈ comb h 0 (value t x) (omega arith)) xs same))
+unique xs s t size-s size-t = unique-among xs s t (size-s ∙ sym size-t) (le-of-eq size-s)

@@ -6,6 +6,7 @@ pub mod Parts
 pub mod Every
 pub mod Symbols
 pub mod Distinct
+pub mod Sieve
 pub mod Division
 pub mod Counting
 pub mod Raised

@@ -1,8 +1,9 @@
 -- The laws of y + (X - x)·h: its length, its symbols, its value and its last coefficient.
 -- Assumes nothing.
-use mathlib.Core.Path.{_≡_, refl, ap}
+use mathlib.Core.Path.{_≡_, refl, sym, ap, _∙_}
 use mathlib.Core.List.{List, [], _∷_}
 use Prim.Native.Nat.{ℕ, zero, suc, _+_, _*_, _%_, _<_}
+use native.Mathlib.Nat.{not-suc-le-zero, le-of-suc-le-suc}
 use native.Mathlib.Omega.{arith}
 use lib.ListN.{length, getD}
 use Rattle.field.specs.Congruence.{_≈_}
@@ -31,11 +32,22 @@ raised-value x y (a ∷ h) z = comb (first +≈ z ·≈ raised-value x a h z) 0 
     first : difference y (product x a) ≈ y + 65536 * (x * a)
     first = difference-≈ y (product x a) ∘≈ ≈-refl +≈ 65536 ·≈ product-≈ x a
 
+-- its coefficients, each from the one before and the one at its own index, and the last one from the one before alone
+
+pub raised-at : (x y : ℕ) (h : List ℕ) (i : ℕ) → i < length h → getD (raised x y h) i 0 ≡ difference (getD (y ∷ h) i 0) (product x (getD h i 0))
+unfolding raised
+raised-at x y [] i l = absurd (not-suc-le-zero l)
+raised-at x y (a ∷ h) zero l = refl
+raised-at x y (a ∷ h) (suc i) l = raised-at x a h i (le-of-suc-le-suc l)
+
+pub raised-end : (x y : ℕ) (h : List ℕ) → getD (raised x y h) (length h) 0 ≡ getD (y ∷ h) (length h) 0 % 65537
+unfolding raised
+raised-end x y [] = refl
+raised-end x y (a ∷ h) = raised-end x a h
+
 -- the last coefficient is that of h
 pub raised-last : (x y : ℕ) (h : List ℕ) (n : ℕ) → length h ≡ suc n → getD (raised x y h) (suc n) 0 ≡ getD h n 0 % 65537
-unfolding raised
-raised-last x y [] n size = absurd (omega arith)
-raised-last x y (a ∷ []) zero size = refl
-raised-last x y (a ∷ []) (suc n) size = absurd (omega arith)
-raised-last x y (a ∷ b ∷ h) zero size = absurd (omega arith)
-raised-last x y (a ∷ b ∷ h) (suc n) size = raised-last x a (b ∷ h) n (omega arith)
+raised-last x y h n size =
+    ap (λ (m : ℕ). getD (raised x y h) m 0) (sym size)
+    ∙ raised-end x y h
+    ∙ ap (λ (m : ℕ). getD (y ∷ h) m 0 % 65537) size

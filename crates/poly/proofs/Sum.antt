@@ -35,6 +35,13 @@ unfolding total
 total-zero zero = refl
 total-zero (suc n) = omega (arith, total-zero n)
 
+-- where a sum is 0 each term is
+pub total-none : (n : ℕ) (f : ℕ → ℕ) → total n f ≡ 0 → (i : ℕ) → i < n → f i ≡ 0
+unfolding total
+total-none zero f none i h = absurd (not-suc-le-zero h)
+total-none (suc n) f none zero h = omega arith
+total-none (suc n) f none (suc i) h = total-none n (λ j. f (suc j)) (omega arith) i (le-of-suc-le-suc h)
+
 pub total-swap : (m n : ℕ) (f : ℕ → ℕ → ℕ) → total m (λ i. total n (f i)) ≡ total n (λ j. total m (λ i. f i j))
 unfolding total
 total-swap zero n f = sym (total-zero n)

@@ -5,7 +5,8 @@ use mathlib.Core.List.{List, [], _∷_, _++_}
 use Prim.Native.Nat.{ℕ, zero, suc, _+_, _<_, suc-le-suc}
 use native.Mathlib.Nat.{not-suc-le-zero, le-of-suc-le-suc, zero-lt-suc, zero-add, suc-add}
 use native.Mathlib.Omega.{arith}
-use lib.ListN.{length, getD}
+use lib.ListN.{length, getD, take, drop-of-length-le}
+use lib.Seq.{split-at}
 use Rattle.poly.specs.Tab.{tab}
 
 pub tab-length : (n : ℕ) (f : ℕ → ℕ) → length (tab n f) ≡ n
@@ -42,3 +43,9 @@ tab-append (suc m) n f =
 pub tab-more : (n : ℕ) (f : ℕ → ℕ) → tab (n + 1) f ≡ tab n f ++ (f n ∷ [])
 unfolding tab
 tab-more n f = tab-append n 1 f ∙ ap (λ (m : ℕ). tab n f ++ (f m ∷ [])) {x = n + 0} {y = n} (omega arith)
+
+-- a list is what stands before its last number, and that number
+pub with-last : (s : List ℕ) (n : ℕ) → length s ≡ suc n → s ≡ take n s ++ (getD s n 0 ∷ [])
+with-last s n size =
+    split-at s n 0 (omega arith)
+    ∙ ap (λ (rest : List ℕ). take n s ++ (getD s n 0 ∷ rest)) (drop-of-length-le s {i = suc n} (omega arith))

@@ -1,5 +1,6 @@
 -- The proofs of specs/Theorems.antt, each under its name there in small letters.
 -- Assumes nothing.
+use native.Mathlib.Nat.{le-of-eq}
 use Rattle.poly.specs.Interpolation.{through}
 use Rattle.poly.specs.Theorems.{PlainSum, EvenOdd, Division, VanishingIsZero, Unique, InterpolationFits, InterpolationUnique, ProductValue, ProductRoots, ProductMonic, AllRoots, RootsOfUnity}
 use Rattle.poly.proofs.AllRoots as Roots
@@ -20,7 +21,7 @@ pub division : Division
 division = divided
 
 pub vanishing-is-zero : VanishingIsZero
-vanishing-is-zero = Counting.vanishing-is-zero
+vanishing-is-zero xs s size = Counting.vanishing-is-zero xs s (le-of-eq size)
 
 pub unique : Unique
 unique xs s t size-s size-t apart low-s low-t same =

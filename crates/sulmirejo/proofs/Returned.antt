@@ -3,10 +3,10 @@
 use mathlib.Core.Path.{_≡_, ap, ap₂, _∙_}
 use mathlib.Core.List.{List, [], _∷_}
 use Prim.Native.Nat.{ℕ}
+use Rattle.field.specs.Leaves.{Leaves, left}
 use Rattle.field.specs.Refusals.{Answer, result, refused, numberOf, placeOf, toldOutcome}
 use Rattle.field.specs.declared.refusal.Outcome.{Outcome}
 use Rattle.field.specs.declared.refusal.Refusal.{Refusal}
-use Rattle.transform.specs.Calls.{Leaves, left}
 use Rattle.sulmirejo.specs.Face.{Returned, status-number, returned, with-point, pointReturned, with-lists, listsReturned}
 
 pub refused-returned : (x : Refusal) (s p : ℕ) → s ≡ numberOf x → p ≡ placeOf x → status-number s p ≡ returned (refused x)

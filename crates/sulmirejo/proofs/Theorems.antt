@@ -1,7 +1,7 @@
 -- The proofs of specs/Theorems.antt, each under its name there in small letters.
 -- Assumes nothing.
 use mathlib.Core.Path.{sym, _∙_}
-use Rattle.sulmirejo.specs.Theorems.{PointSettled, TransformSettled, InverseSettled}
+use Rattle.sulmirejo.specs.Theorems.{PointSettled, TransformSettled, InverseSettled, EncodeSettled, DecodeSettled}
 
 pub point-settled : PointSettled
 point-settled n i before r s p q = p ∙ sym q
@@ -11,3 +11,9 @@ transform-settled list work r s p q = p ∙ sym q
 
 pub inverse-settled : InverseSettled
 inverse-settled list work r s p q = p ∙ sym q
+
+pub encode-settled : EncodeSettled
+encode-settled k n message out work r s p q = p ∙ sym q
+
+pub decode-settled : DecodeSettled
+decode-settled k n positions values out work r s p q = p ∙ sym q

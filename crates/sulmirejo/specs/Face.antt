@@ -2,8 +2,8 @@
 use mathlib.Core.List.{List}
 use Prim.Native.Nat.{ℕ}
 use lib.ListN.{getD}
+use Rattle.field.specs.Leaves.{Leaves}
 use Rattle.field.specs.Refusals.{Answer, result, refusal}
-use Rattle.transform.specs.Calls.{Leaves}
 
 pub record Returned : Type 0 where
   pub status : ℕ
@@ -30,7 +30,7 @@ abbrev pub pointReturned : Answer → ℕ → PointReturned
 pointReturned (result vs) before = with-point (returned (result vs)) (getD vs 0 0)
 pointReturned (refusal n i) before = with-point (returned (refusal n i)) before
 
--- the transform and its inverse: what they leave, with the answer told
+-- a call with a list that takes the result and a working space: what it leaves, with the answer told
 pub record ListsReturned : Type 0 where
   pub status : ℕ
   pub number : ℕ

@@ -2,23 +2,31 @@
 use mathlib.Core.Path.{_≡_}
 use mathlib.Core.List.{List}
 use Prim.Native.Nat.{ℕ}
+use Rattle.field.specs.Leaves.{Leaves}
 use Rattle.field.specs.Points.{pointAnswer}
 use Rattle.transform.specs.Calls.{transformLeaves, inverseLeaves}
+use Rattle.block.specs.Calls.{encodeLeaves, decodeLeaves}
 use Rattle.sulmirejo.specs.Face.{PointReturned, pointReturned, ListsReturned, listsReturned}
 
--- Two outcomes of a call are equal: the status, the number, the point, every cell of both lists
+-- Two outcomes of a call are equal: the status, the number, the point, every cell of the lent lists
 
 abbrev pub PointSettled : Type 0
 PointSettled =
     (n i before : ℕ) (r s : PointReturned) → r ≡ pointReturned (pointAnswer n i) before
     → s ≡ pointReturned (pointAnswer n i) before → r ≡ s
 
+-- two outcomes of a call that leaves lists
+abbrev pub Settled : Leaves → Type 0
+Settled it = (r s : ListsReturned) → r ≡ listsReturned it → s ≡ listsReturned it → r ≡ s
+
 abbrev pub TransformSettled : Type 0
-TransformSettled =
-    (list work : List ℕ) (r s : ListsReturned) → r ≡ listsReturned (transformLeaves list work)
-    → s ≡ listsReturned (transformLeaves list work) → r ≡ s
+TransformSettled = (list work : List ℕ) → Settled (transformLeaves list work)
 
 abbrev pub InverseSettled : Type 0
-InverseSettled =
-    (list work : List ℕ) (r s : ListsReturned) → r ≡ listsReturned (inverseLeaves list work)
-    → s ≡ listsReturned (inverseLeaves list work) → r ≡ s
+InverseSettled = (list work : List ℕ) → Settled (inverseLeaves list work)
+
+abbrev pub EncodeSettled : Type 0
+EncodeSettled = (k n : ℕ) (message out work : List ℕ) → Settled (encodeLeaves k n message out work)
+
+abbrev pub DecodeSettled : Type 0
+DecodeSettled = (k n : ℕ) (positions values out work : List ℕ) → Settled (decodeLeaves k n positions values out work)

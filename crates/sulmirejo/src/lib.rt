@@ -7,6 +7,7 @@ ghost use mathlib.Core.Path.{_≡_};
 ghost use Rattle.field.specs.Points.{pointAnswer};
 ghost use Rattle.field.specs.Refusals.{toldOutcome};
 ghost use Rattle.transform.specs.Calls.{transformLeaves, inverseLeaves};
+ghost use Rattle.block.specs.Calls.{encodeLeaves, decodeLeaves};
 ghost use Rattle.sulmirejo.specs.Face.{status-number, returned, with-point, pointReturned, with-lists, listsReturned};
 
 // 0 or the refusal's number; the place goes to number.
@@ -57,5 +58,36 @@ pub extern "C" fn sulmirejo_inverse(list: &mut [u32], work: &mut [u32], number: 
     ensures { λ r. ⌜ with-lists (status-number r (now (number .exit))) (now (list .exit)) (now (work .exit)) ≡ listsReturned (inverseLeaves (now (list .entry)) (now (work .entry))) ⌝ }
 {
     let outcome = transform::inverse(list, work);
+    tell(outcome, number)
+}
+
+#[no_mangle]
+pub extern "C" fn sulmirejo_encode(
+    k: usize,
+    n: usize,
+    message: &[u32],
+    out: &mut [u32],
+    work: &mut [u32],
+    number: &mut usize,
+) -> u32
+    ensures { λ r. ⌜ with-lists (status-number r (now (number .exit))) (now (out .exit)) (now (work .exit)) ≡ listsReturned (encodeLeaves k n (now (message .entry)) (now (out .entry)) (now (work .entry))) ⌝ }
+{
+    let outcome = block::encode(k, n, message, out, work);
+    tell(outcome, number)
+}
+
+#[no_mangle]
+pub extern "C" fn sulmirejo_decode(
+    k: usize,
+    n: usize,
+    positions: &[u32],
+    values: &[u32],
+    out: &mut [u32],
+    work: &mut [u32],
+    number: &mut usize,
+) -> u32
+    ensures { λ r. ⌜ with-lists (status-number r (now (number .exit))) (now (out .exit)) (now (work .exit)) ≡ listsReturned (decodeLeaves k n (now (positions .entry)) (now (values .entry)) (now (out .entry)) (now (work .entry))) ⌝ }
+{
+    let outcome = block::decode(k, n, positions, values, out, work);
     tell(outcome, number)
 }

@@ -1,33 +1,22 @@
 -- What the checks tell: where they pass, the list is ready and there is room; and what a call then leaves.
 -- Assumes nothing.
-use mathlib.Core.Path.{_≡_, refl, sym, ap, ap₂, _∙_}
-use mathlib.Core.Bool.{Bool, true, false, _||_}
-use mathlib.Core.List.{List, [], _++_}
-use Prim.Native.Nat.{ℕ, _-_, _+_, _≤_}
-use native.Mathlib.Omega.{arith}
+use mathlib.Core.Path.{_≡_, refl, sym}
+use mathlib.Core.Bool.{false, _||_}
+use mathlib.Core.List.{List, []}
+use Prim.Native.Nat.{ℕ, _-_, _≤_}
 use borrow.Author.Tests.{ltb-false, eqb-true, not-false}
 use lib.Dec.{ltb, eqb}
-use lib.ListN.{length, take, drop, replicate, length-take}
-use Rattle.field.specs.Refusals.{Answer, result, refused, refuseIf}
+use lib.ListN.{length}
+use Rattle.field.specs.Refusals.{result}
 use Rattle.field.specs.Shape.{longest}
 use Rattle.field.specs.Size.{sizeOf}
 use Rattle.field.specs.Values.{firstAbove}
-use Rattle.field.specs.declared.refusal.Refusal.{Refusal}
 use Rattle.field.specs.declared.refusal.Refusal.the-variants.{Shape, Room, Value}
-use Rattle.field.proofs.Refusals.{result-no-refusal}
+use Rattle.field.proofs.Leaves.{passed, or-false}
 use Rattle.field.proofs.Values.{all-symbols}
-use Rattle.transform.specs.Calls.{judged, left, leaves}
+use Rattle.transform.specs.Calls.{judged}
 use Rattle.transform.specs.Lengths.{badLength}
 use Rattle.transform.specs.Ready.{Ready}
-
--- a check that did not refuse
-passed : (bad : Bool) (x : Refusal) (later : Answer) (vs : List ℕ) → refuseIf bad x later ≡ result vs → (bad ≡ false) × (later ≡ result vs)
-passed true x later vs e = absurd (result-no-refusal (sym e))
-passed false x later vs e = (refl, e)
-
-pub or-false : (a b : Bool) → a || b ≡ false → (a ≡ false) × (b ≡ false)
-or-false true b e = absurd (let z : _≡_ {A = ℕ} 0 1 = cc in omega arith)
-or-false false b e = (refl, e)
 
 pub good-size : (n : ℕ) → badLength n ≡ false → n ≡ sizeOf n
 unfolding badLength
@@ -51,18 +40,3 @@ judged-good list room e =
           };
       enough = ltb-false room (length list) (enough .0);
     }
-
-module _ (list work : List ℕ) (f : List ℕ → List ℕ) where
-  -- what is left on success: cells is what the cleared part holds
-  pub leaves-done : judged list (length work) ≡ result [] → (l cells : List ℕ) → l ≡ f list → cells ≡ replicate (length (take (length list - 0) work)) 0
-      → left (result []) l (cells ++ drop (length list - 0) work) ≡ leaves (judged list (length work)) f list work
-  leaves-done good l cells is cleared =
-      ap₂ (left (result [])) is
-      (ap₂ _++_
-      (cleared ∙ ap (λ (m : ℕ). replicate m 0) {x = length (take (length list - 0) work)} {y = length list} (omega (arith, length-take (length list - 0) work, judged-good list (length work) good .enough)))
-      (ap (λ (m : ℕ). drop m work) {x = length list - 0} {y = length list} (omega arith)))
-      ∙ ap (λ (a : Answer). leaves a f list work) (sym good)
-
-  pub leaves-refused : (x : Refusal) → judged list (length work) ≡ refused x
-      → left (refused x) list work ≡ leaves (judged list (length work)) f list work
-  leaves-refused x bad = ap (λ (a : Answer). leaves a f list work) (sym bad)

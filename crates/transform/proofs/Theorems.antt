@@ -20,7 +20,7 @@ use Rattle.field.specs.Size.{levelOf, sizeOf}
 use Rattle.field.specs.Symbol.{Symbols}
 use Rattle.field.specs.Values.{firstAbove}
 use Rattle.field.proofs.Congruence.{≈-sym, mod-≈}
-use Rattle.field.proofs.Refusals.{told-outcome-one}
+use Rattle.field.proofs.Leaves.{or-false, settled}
 use Rattle.field.proofs.Ring.{product-lt}
 use Rattle.field.proofs.Size.{level-power, size-power, size-of-power}
 use Rattle.field.proofs.Values.{all-symbols}
@@ -29,11 +29,10 @@ use Rattle.poly.specs.Tab.{tab}
 use Rattle.poly.specs.Value.{value}
 use Rattle.poly.proofs.Tab.{tab-at}
 use Rattle.poly.proofs.Value.{value-≈}
-use Rattle.transform.specs.Calls.{Leaves}
 use Rattle.transform.specs.Lengths.{badLength}
-use Rattle.transform.specs.Theorems.{HalvingIsSum, HalvedIsHalving, TransformIsValue, TransformSymbols, InverseUndoes, TransformUndoes, WorkedNumbers, GoodLengths, Settled, TransformSettled, InverseSettled}
+use Rattle.transform.specs.Theorems.{HalvingIsSum, HalvedIsHalving, TransformIsValue, TransformSymbols, InverseUndoes, TransformUndoes, WorkedNumbers, GoodLengths, TransformSettled, InverseSettled}
 use Rattle.transform.specs.Transform.{sums, transformOf, inverseOf}
-use Rattle.transform.proofs.Judged.{or-false, good-size}
+use Rattle.transform.proofs.Judged.{good-size}
 use Rattle.transform.proofs.Order.{arranged-in-order, halved-is}
 use Rattle.transform.proofs.Ready.{ready-of}
 use Rattle.transform.proofs.Steps.{root-halfway}
@@ -117,14 +116,6 @@ good-lengths N = (forth, λ p. back (p .1 .0) (p .0) (p .1 .1))
           le-ltb longest N few,
           eq-eqb (sizeOf N) N (ap sizeOf is ∙ size-of-power e (few-levels e (omega (arith, is))) ∙ sym is),
         )
-
-settled : (left : Leaves) → Settled left
-settled left r s l m w v p q =
-    let same = p ∙ sym q in (
-      told-outcome-one r s (ap (λ (x : Leaves). x .answer) same),
-      ap (λ (x : Leaves). x .list) same,
-      ap (λ (x : Leaves). x .work) same,
-    )
 
 pub transform-settled : TransformSettled
 transform-settled list work = settled _

@@ -5,14 +5,13 @@ use mathlib.Core.List.{List, [], _∷_}
 use mathlib.Core.Logic.{_↔_}
 use Prim.Native.Nat.{ℕ, _^_, _%_, _<_, _≤_}
 use lib.ListN.{length, getD}
+use Rattle.field.specs.Leaves.{Settled}
 use Rattle.field.specs.Points.{pointOf}
-use Rattle.field.specs.Refusals.{toldOutcome}
 use Rattle.field.specs.Roots.{root}
 use Rattle.field.specs.Shape.{longest}
 use Rattle.field.specs.Symbol.{Symbols}
-use Rattle.field.specs.declared.refusal.Outcome.{Outcome}
 use Rattle.poly.specs.Value.{value}
-use Rattle.transform.specs.Calls.{Leaves, left, transformLeaves, inverseLeaves}
+use Rattle.transform.specs.Calls.{transformLeaves, inverseLeaves}
 use Rattle.transform.specs.Lengths.{badLength}
 use Rattle.transform.specs.Halving.{halving}
 use Rattle.transform.specs.InPlace.{halved}
@@ -61,11 +60,6 @@ abbrev pub GoodLengths : Type 0
 GoodLengths = (N : ℕ) → (badLength N ≡ false) ↔ ((N ≤ longest) × ((e : ℕ) × (N ≡ 2 ^ e)))
 
 -- two outcomes of a call are equal: the answer and every cell of both lists
-abbrev pub Settled : Leaves → Type 0
-Settled it =
-    (r s : Outcome) (l m w v : List ℕ) → left (toldOutcome r) l w ≡ it → left (toldOutcome s) m v ≡ it
-    → (r ≡ s) × (l ≡ m) × (w ≡ v)
-
 abbrev pub TransformSettled : Type 0
 TransformSettled = (list work : List ℕ) → Settled (transformLeaves list work)
 

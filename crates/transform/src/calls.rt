@@ -2,8 +2,9 @@
 use crate::inner;
 use field::Outcome;
 ghost use mathlib.Core.Path.{_≡_};
+ghost use Rattle.field.specs.Leaves.{left};
 ghost use Rattle.field.specs.Refusals.{toldOutcome};
-ghost use Rattle.transform.specs.Calls.{left, oneOf, callLeaves, transformLeaves, inverseLeaves};
+ghost use Rattle.transform.specs.Calls.{oneOf, callLeaves, transformLeaves, inverseLeaves};
 ghost use Rattle.transform.specs.Ready.{Ready};
 
 // The transform, or the inverse where back is asked.

@@ -1,15 +1,17 @@
 -- `transform::calls::call` meets its contract: what the checks refuse leaves all as it was; else the list is worked on in place and the working
 -- space cleared.
 -- Assumes nothing.
-use mathlib.Core.Path.{sym, ap, _∙_}
+use mathlib.Core.Path.{sym, ap, ap₂, _∙_}
+use mathlib.Core.List.{[]}
 use Prim.Native.Nat.{ℕ, _-_}
 use native.Mathlib.Omega.{arith}
 use borrow.Author.Needs.{needs}
 use lib.ListN.{length}
 use lib.Seq.{length-front}
-use Rattle.field.specs.Refusals.{toldOutcome}
-use Rattle.transform.specs.Calls.{oneOf}
-use Rattle.transform.proofs.Judged.{judged-good, leaves-done, leaves-refused}
+use Rattle.field.specs.Leaves.{left}
+use Rattle.field.specs.Refusals.{result, toldOutcome}
+use Rattle.field.proofs.Leaves.{leaves-done, leaves-refused, zeroed-part}
+use Rattle.transform.proofs.Judged.{judged-good}
 use Rattle.transform.proofs.calls.call.Statement.{statement}
 use Rattle.transform.proofs.calls.call.Tie as tie
 
@@ -39,12 +41,14 @@ call-spec =
     let worked = cleared .before .before .before .before in
     let told = worked .before .before in
     let judged = told .before .before in
-    leaves-done _ _ (oneOf (judged .before .before .before .before .args .back)) (sym (judged .judge .ensures) ∙ ap toldOutcome (told .enum-told .given .1)) _ _
-    (worked .one-of .ensures)
-    (cleared .clear .ensures))
+    let start = judged .before .before .before .before in
+    let good = sym (judged .judge .ensures) ∙ ap toldOutcome (told .enum-told .given .1) in
+    ap₂ (left (result [])) (worked .one-of .ensures)
+    (zeroed-part (length (start .args .list .now)) _ (start .args .work .now) (judged-good _ _ good .enough) (cleared .clear .ensures))
+    ∙ leaves-done _ _ _ _ good)
     (λ c. search needs)
     (λ c.
     let known = c .before in
     let judged = known .before .before in
-    leaves-refused _ _ (oneOf (judged .before .before .before .before .args .back)) (known .refusal .given .0 .0)
+    leaves-refused _ (known .refusal .given .0 .0) _ _ _
     (sym (judged .judge .ensures) ∙ ap toldOutcome (known .refusal .given .1))))

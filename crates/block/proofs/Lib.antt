@@ -1,0 +1,16 @@
+pub mod Meeting
+pub mod Points
+pub mod Decoding
+pub mod Interpolating
+pub mod Finding
+pub mod Recovering
+pub mod Spreading
+pub mod Bitmap
+pub mod Repeating
+pub mod Outside
+pub mod Passing
+pub mod Calling
+pub mod Agreement
+pub mod Altering
+pub mod Disagreeing
+pub mod Theorems

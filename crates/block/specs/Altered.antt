@@ -1,0 +1,13 @@
+-- How many of the held symbols are altered: those whose value is not the sent message's.
+use mathlib.Core.Bool.{cond}
+use mathlib.Core.List.{List}
+use Prim.Native.Nat.{ℕ}
+use lib.Dec.{eqb}
+use lib.ListN.{length, getD}
+use Rattle.poly.specs.Sum.{total}
+use Rattle.block.specs.Code.{symbolOf}
+use Rattle.block.specs.Held.{Held}
+
+unfoldable pub altered : ℕ → List ℕ → Held → ℕ
+altered n sent h =
+    total (length (h .positions)) (λ j. cond (eqb (symbolOf n sent (getD (h .positions) j 0)) (getD (h .values) j 0)) 0 1)

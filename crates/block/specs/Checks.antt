@@ -1,0 +1,32 @@
+-- The checks of encode and decode, in the order of the numbers, each over the whole list before the next.
+use mathlib.Core.Bool.{_||_, not}
+use mathlib.Core.List.{List, []}
+use Prim.Native.Nat.{ℕ}
+use lib.Dec.{ltb, eqb}
+use lib.ListN.{length}
+use Rattle.field.specs.Refusals.{Answer, result, refuseIf}
+use Rattle.field.specs.Shape.{badShape}
+use Rattle.field.specs.Values.{refuseAbove}
+use Rattle.field.specs.declared.refusal.Refusal.the-variants.{Shape, Length, Room, Few, Position, Repeat}
+use Rattle.block.specs.Held.{held}
+use Rattle.block.specs.Positions.{firstOutside}
+use Rattle.block.specs.Repeats.{firstRepeat}
+use Rattle.block.specs.Rooms.{encodeRoom, decodeRoom}
+
+-- out and work are the lengths of the output and of the working space
+
+unfoldable pub encodeChecks : ℕ → ℕ → List ℕ → ℕ → ℕ → Answer
+encodeChecks k n message out work =
+    refuseIf (badShape k n) Shape
+    (refuseIf (not (eqb (length message) k)) Length
+    (refuseIf (ltb out n || ltb work (encodeRoom n)) Room (refuseAbove message (result []))))
+
+unfoldable pub decodeChecks : ℕ → ℕ → List ℕ → List ℕ → ℕ → ℕ → Answer
+decodeChecks k n positions values out work =
+    refuseIf (badShape k n) Shape
+    (refuseIf (not (eqb (length positions) (length values))) Length
+    (refuseIf (ltb out k || ltb work (decodeRoom n)) Room
+    (refuseIf (ltb (length (held positions values .positions)) k) Few
+    (refuseIf (ltb (firstOutside n positions) (length positions)) (Position (firstOutside n positions))
+    (refuseIf (ltb (firstRepeat positions) (length positions)) (Repeat (firstRepeat positions))
+    (refuseAbove values (result [])))))))

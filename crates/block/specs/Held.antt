@@ -1,0 +1,11 @@
+-- The held symbols: positions of the code word, and the value held for each.
+use mathlib.Core.List.{List}
+use Prim.Native.Nat.{ℕ}
+
+pub record Held : Type 0 where
+  pub positions : List ℕ
+  pub values : List ℕ
+
+-- all symbols that are given are held: "all m are compared"
+unfoldable pub held : List ℕ → List ℕ → Held
+held positions values = record { positions = positions; values = values }

@@ -1,0 +1,16 @@
+pub mod Meeting
+pub mod Code
+pub mod Message
+pub mod Held
+pub mod Fits
+pub mod Decoding
+pub mod Newton
+pub mod Positions
+pub mod Repeats
+pub mod Bitmap
+pub mod Rooms
+pub mod Checks
+pub mod Calls
+pub mod Ready
+pub mod Altered
+pub mod Theorems

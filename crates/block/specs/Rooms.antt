@@ -1,0 +1,9 @@
+-- Room needed: "encode, output n, working space 2N; decode, output k, working space 4N".
+use Prim.Native.Nat.{ℕ, _*_}
+use Rattle.field.specs.Size.{sizeOf}
+
+unfoldable pub encodeRoom : ℕ → ℕ
+encodeRoom n = 2 * sizeOf n
+
+unfoldable pub decodeRoom : ℕ → ℕ
+decodeRoom n = 4 * sizeOf n

@@ -1,0 +1,96 @@
+// The checks of encode and decode, in document 01's order. They write nothing.
+use crate::repeats::first_repeat;
+use field::Outcome;
+use field::Refusal;
+use field::inner::bad_shape;
+use field::inner::first_above;
+use field::inner::position;
+use field::inner::size;
+ghost use mathlib.Core.Path.{_≡_};
+ghost use mathlib.Core.Bool.{_||_};
+ghost use lib.Dec.{ltb};
+ghost use Rattle.field.specs.Refusals.{toldOutcome};
+ghost use Rattle.block.specs.Checks.{encodeChecks, decodeChecks};
+ghost use Rattle.block.specs.Positions.{firstOutside};
+
+// The index of the first position that is n or more, the list's length where none is.
+fn first_outside(n: usize, positions: &[u32]) -> usize
+    ensures { λ r. ⌜ r ≡ firstOutside n (now (positions .entry)) ⌝ }
+{
+    let mut i = 0;
+    while i < positions.len() {
+        let place = position(positions[i]);
+        if n <= place.0 {
+            return i;
+        }
+        i += 1;
+    }
+    i
+}
+
+// Whether the output or the working space is shorter than stated.
+fn too_short(out: usize, needed: usize, work: usize, room: usize) -> bool
+    ensures { λ r. ⌜ r ≡ ltb out needed || ltb work room ⌝ }
+{
+    if out < needed {
+        return true;
+    }
+    work < room
+}
+
+// out and work are the lengths of the output and of the working space.
+pub fn encode_checks(k: usize, n: usize, message: &[u32], out: usize, work: usize) -> Outcome
+    ensures { λ r. ⌜ toldOutcome r ≡ encodeChecks k n (now (message .entry)) out work ⌝ }
+{
+    if bad_shape(k, n) {
+        return Outcome::Refused(Refusal::Shape);
+    }
+    if message.len() != k {
+        return Outcome::Refused(Refusal::Length);
+    }
+    if too_short(out, n, work, 2 * size(n)) {
+        return Outcome::Refused(Refusal::Room);
+    }
+    let above = first_above(message);
+    if above < message.len() {
+        return Outcome::Refused(Refusal::Value(above));
+    }
+    Outcome::Done
+}
+
+pub fn decode_checks(
+    k: usize,
+    n: usize,
+    positions: &[u32],
+    values: &[u32],
+    out: usize,
+    work: usize,
+) -> Outcome
+    ensures { λ r. ⌜ toldOutcome r ≡ decodeChecks k n (now (positions .entry)) (now (values .entry)) out work ⌝ }
+{
+    if bad_shape(k, n) {
+        return Outcome::Refused(Refusal::Shape);
+    }
+    if positions.len() != values.len() {
+        return Outcome::Refused(Refusal::Length);
+    }
+    if too_short(out, k, work, 4 * size(n)) {
+        return Outcome::Refused(Refusal::Room);
+    }
+    if positions.len() < k {
+        return Outcome::Refused(Refusal::Few);
+    }
+    let outside = first_outside(n, positions);
+    if outside < positions.len() {
+        return Outcome::Refused(Refusal::Position(outside));
+    }
+    let repeat = first_repeat(positions);
+    if repeat < positions.len() {
+        return Outcome::Refused(Refusal::Repeat(repeat));
+    }
+    let above = first_above(values);
+    if above < values.len() {
+        return Outcome::Refused(Refusal::Value(above));
+    }
+    Outcome::Done
+}

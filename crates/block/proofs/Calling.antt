@@ -5,7 +5,7 @@ use mathlib.Core.List.{List, [], _++_, append-nil}
 use mathlib.Core.Option.{Option, some, none}
 use Prim.Native.Nat.{ℕ, _-_, _*_, _≤_}
 use native.Mathlib.Omega.{arith}
-use lib.ListN.{length, take, drop, replicate, length-take, drop-of-length-le}
+use lib.ListN.{length, take, drop, replicate, drop-of-length-le}
 use lib.Seq.{length-take-le}
 use Rattle.field.specs.Leaves.{Leaves, left, written, zeroed}
 use Rattle.field.specs.Refusals.{Answer, result}

@@ -55,7 +55,7 @@ laid message cells copied cleared enough is zeros =
 -- The transform of it
 
 module _ (n : ℕ) (message : List ℕ) (good : Codable n message) where
-  n-fits : n ≤ sizeOf n
+  pub n-fits : n ≤ sizeOf n
   n-fits = size-enough n (le-trans (shape-good _ n (good .shape) .2) longest-le)
 
   k-fits : length message ≤ sizeOf n

@@ -9,7 +9,9 @@ use borrow.Author.Tests.{lt-ltb, le-ltb}
 use lib.Dec.{ltb}
 use lib.ListN.{length, take, drop, replicate, length-take}
 use Rattle.field.specs.Leaves.{Leaves, left, unlessRefused, zeroed, Settled}
-use Rattle.field.specs.Refusals.{Answer, result, refused, refuseIf}
+use Rattle.field.specs.Refusals.{Answer, result, refused, refuseIf, toldOutcome}
+use Rattle.field.specs.declared.refusal.Outcome.{Outcome}
+use Rattle.field.specs.declared.refusal.Outcome.the-variants.{Done, Refused}
 use Rattle.field.specs.declared.refusal.Refusal.{Refusal}
 use Rattle.field.proofs.Refusals.{result-no-refusal, told-outcome-one}
 
@@ -47,6 +49,14 @@ passes-all make place bound later {x = x} e h rest = goes-on (make place) later 
 pub or-false : (a b : Bool) → a || b ≡ false → (a ≡ false) × (b ≡ false)
 or-false true b e = absurd (let z : _≡_ {A = ℕ} 0 1 = cc in omega arith)
 or-false false b e = (refl, e)
+
+-- what the checks answer, where the code's outcome is known
+
+pub told-done : (a : Answer) (o : Outcome) → toldOutcome o ≡ a → o ≡ Done → a ≡ result []
+told-done a o told done = sym told ∙ ap toldOutcome done
+
+pub told-refused : (a : Answer) (o : Outcome) (x : Refusal) → toldOutcome o ≡ a → o ≡ Refused x → a ≡ refused x
+told-refused a o x told done = sym told ∙ ap toldOutcome done
 
 -- what a call leaves where its checks refused, and where they passed
 

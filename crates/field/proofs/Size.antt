@@ -56,6 +56,7 @@ level-size n = level-power (levelOf n) (level-le n)
 pub size-of-power : (e : ℕ) → e ≤ 16 → sizeOf (2 ^ e) ≡ 2 ^ e
 size-of-power e h = size-power (2 ^ e) ∙ ap (2 ^_) (level-power e h)
 
-pub size-le : (n : ℕ) → sizeOf n ≤ 65536
+-- as a call gives it
+pub size-small : (S n : ℕ) → S ≡ sizeOf n → S ≤ 65536
 unfolding sizeOf
-size-le n = pow-mono (level-le n)
+size-small S n is = le-trans (le-of-eq is) (pow-mono (level-le n))

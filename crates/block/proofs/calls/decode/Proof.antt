@@ -1,14 +1,15 @@
 -- `block::calls::decode` meets its contract: what the checks refuse leaves all as it was; else the message is sought, and what that leaves of
 -- the stated working space is left of the whole.
 -- Assumes nothing.
-use mathlib.Core.Path.{sym, ap, _∙_}
+use mathlib.Core.Path.{_∙_}
 use Prim.Native.Nat.{ℕ, _-_, _*_}
 use native.Mathlib.Omega.{arith}
 use borrow.Author.Needs.{needs}
+use lib.ListN.{length}
 use lib.Seq.{length-front}
-use Rattle.field.specs.Refusals.{toldOutcome}
-use Rattle.field.proofs.Leaves.{leaves-done, leaves-refused}
-use Rattle.field.proofs.Size.{size-le}
+use Rattle.field.proofs.Leaves.{told-done, told-refused, leaves-done, leaves-refused}
+use Rattle.field.proofs.Size.{size-small}
+use Rattle.block.specs.Checks.{decodeChecks}
 use Rattle.block.specs.Decoding.{decodeOf}
 use Rattle.block.specs.Held.{held}
 use Rattle.block.proofs.Calling.{decode-room, part-length, decoded-whole}
@@ -23,19 +24,19 @@ decode-spec =
     (λ c κs. search needs)
     (λ c. search needs)
     (λ c κs. search needs)
-    (λ c. omega (arith, c .size .ensures, size-le (c .before .before .before .before .before .before .before .before .args .n)))
+    (λ c. omega (arith, size-small _ _ (c .size .ensures)))
     (λ c. search needs)
     (λ c. search needs)
     (λ c.
     let sized = c .before in
     let told = sized .before in
     let start = told .before .before .before .before .before .before .before in
-    omega (arith, decode-room (start .args .n) _ (sized .size .ensures), decode-passed (start .args .k) (start .args .n) (start .args .positions .now) (start .args .values .now) _ _ (sym (told .before .before .decode-checks .ensures) ∙ ap toldOutcome (told .enum-told .given .1)) .2))
+    omega (arith, decode-room (start .args .n) _ (sized .size .ensures), decode-passed (start .args .k) (start .args .n) (start .args .positions .now) (start .args .values .now) (length (start .args .out .now)) (length (start .args .work .now)) (told-done (decodeChecks (start .args .k) (start .args .n) (start .args .positions .now) (start .args .values .now) (length (start .args .out .now)) (length (start .args .work .now))) _ (told .before .before .decode-checks .ensures) (told .enum-told .given .1)) .2))
     (λ c κs.
     let sized = c .before .before in
     let told = sized .before in
     let start = told .before .before .before .before .before .before .before in
-    let good = decode-passed (start .args .k) (start .args .n) (start .args .positions .now) (start .args .values .now) _ _ (sym (told .before .before .decode-checks .ensures) ∙ ap toldOutcome (told .enum-told .given .1)) in
+    let good = decode-passed (start .args .k) (start .args .n) (start .args .positions .now) (start .args .values .now) (length (start .args .out .now)) (length (start .args .work .now)) (told-done (decodeChecks (start .args .k) (start .args .n) (start .args .positions .now) (start .args .values .now) (length (start .args .out .now)) (length (start .args .work .now))) _ (told .before .before .decode-checks .ensures) (told .enum-told .given .1)) in
     (good .0, good .1, part-length _ _ _ (decode-room _ _ (sized .size .ensures)) (good .2)))
     (λ c. search needs)
     (λ c. c .before .before .before .before .recover .kept .1 .1 .1 .1 .0)
@@ -48,10 +49,11 @@ decode-spec =
     let sized = recovered .before .before .before in
     let told = sized .before in
     let start = told .before .before .before .before .before .before .before in
-    let passed = sym (told .before .before .decode-checks .ensures) ∙ ap toldOutcome (told .enum-told .given .1) in
-    decoded-whole (start .args .n) _ (decodeOf (start .args .k) (start .args .n) (held (start .args .positions .now) (start .args .values .now))) _ (start .args .out .now) (start .args .work .now) _ _ (decode-room (start .args .n) _ (sized .size .ensures)) (decode-passed (start .args .k) (start .args .n) (start .args .positions .now) (start .args .values .now) _ _ passed .2) (recovered .recover .ensures)
-    ∙ leaves-done _ _ _ _ passed)
+    let passed = told-done (decodeChecks (start .args .k) (start .args .n) (start .args .positions .now) (start .args .values .now) (length (start .args .out .now)) (length (start .args .work .now))) _ (told .before .before .decode-checks .ensures) (told .enum-told .given .1) in
+    decoded-whole (start .args .n) _ (decodeOf (start .args .k) (start .args .n) (held (start .args .positions .now) (start .args .values .now))) _ (start .args .out .now) (start .args .work .now) _ _ (decode-room (start .args .n) _ (sized .size .ensures)) (decode-passed (start .args .k) (start .args .n) (start .args .positions .now) (start .args .values .now) (length (start .args .out .now)) (length (start .args .work .now)) passed .2) (recovered .recover .ensures)
+    ∙ leaves-done (decodeChecks (start .args .k) (start .args .n) (start .args .positions .now) (start .args .values .now) (length (start .args .out .now)) (length (start .args .work .now))) _ _ _ passed)
     (λ c.
     let known = c .before in
-    leaves-refused _ (known .refusal .given .0 .0) _ _ _
-    (sym (known .before .before .decode-checks .ensures) ∙ ap toldOutcome (known .refusal .given .1))))
+    let start = known .before .before .before .before .before .before .before in
+    leaves-refused (decodeChecks (start .args .k) (start .args .n) (start .args .positions .now) (start .args .values .now) (length (start .args .out .now)) (length (start .args .work .now))) (known .refusal .given .0 .0) _ _ _
+    (told-refused (decodeChecks (start .args .k) (start .args .n) (start .args .positions .now) (start .args .values .now) (length (start .args .out .now)) (length (start .args .work .now))) _ _ (known .before .before .decode-checks .ensures) (known .refusal .given .1))))

@@ -1,16 +1,18 @@
 -- `block::calls::encode` meets its contract: what the checks refuse leaves all as it was; else the code word is written and the stated working
 -- space cleared.
 -- Assumes nothing.
-use mathlib.Core.Path.{sym, ap, ap₂, _∙_}
+use mathlib.Core.Path.{ap₂, _∙_}
 use mathlib.Core.List.{[]}
 use Prim.Native.Nat.{ℕ, _-_, _*_}
 use native.Mathlib.Omega.{arith}
 use borrow.Author.Needs.{needs}
+use lib.ListN.{length}
 use lib.Seq.{length-front}
 use Rattle.field.specs.Leaves.{left}
-use Rattle.field.specs.Refusals.{result, toldOutcome}
-use Rattle.field.proofs.Leaves.{leaves-done, leaves-refused}
-use Rattle.field.proofs.Size.{size-le}
+use Rattle.field.specs.Refusals.{result}
+use Rattle.field.proofs.Leaves.{told-done, told-refused, leaves-done, leaves-refused}
+use Rattle.field.proofs.Size.{size-small}
+use Rattle.block.specs.Checks.{encodeChecks}
 use Rattle.block.proofs.Calling.{encode-room, part-length, part-zeroed}
 use Rattle.block.proofs.Passing.{encode-passed}
 use Rattle.block.proofs.calls.encode.Statement.{statement}
@@ -23,19 +25,19 @@ encode-spec =
     (λ c κs. search needs)
     (λ c. search needs)
     (λ c κs. search needs)
-    (λ c. omega (arith, c .size .ensures, size-le (c .before .before .before .before .before .before .before .args .n)))
+    (λ c. omega (arith, size-small _ _ (c .size .ensures)))
     (λ c. search needs)
     (λ c. search needs)
     (λ c.
     let sized = c .before in
     let told = sized .before in
     let start = told .before .before .before .before .before .before in
-    omega (arith, encode-room (start .args .n) _ (sized .size .ensures), encode-passed (start .args .k) (start .args .n) (start .args .message .now) _ _ (sym (told .before .before .encode-checks .ensures) ∙ ap toldOutcome (told .enum-told .given .1)) .3))
+    omega (arith, encode-room (start .args .n) _ (sized .size .ensures), encode-passed (start .args .k) (start .args .n) (start .args .message .now) (length (start .args .out .now)) (length (start .args .work .now)) (told-done (encodeChecks (start .args .k) (start .args .n) (start .args .message .now) (length (start .args .out .now)) (length (start .args .work .now))) _ (told .before .before .encode-checks .ensures) (told .enum-told .given .1)) .3))
     (λ c κs.
     let sized = c .before .before in
     let told = sized .before in
     let start = told .before .before .before .before .before .before in
-    let good = encode-passed (start .args .k) (start .args .n) (start .args .message .now) _ _ (sym (told .before .before .encode-checks .ensures) ∙ ap toldOutcome (told .enum-told .given .1)) in
+    let good = encode-passed (start .args .k) (start .args .n) (start .args .message .now) (length (start .args .out .now)) (length (start .args .work .now)) (told-done (encodeChecks (start .args .k) (start .args .n) (start .args .message .now) (length (start .args .out .now)) (length (start .args .work .now))) _ (told .before .before .encode-checks .ensures) (told .enum-told .given .1)) in
     (good .0, good .2, part-length _ _ _ (encode-room _ _ (sized .size .ensures)) (good .3)))
     (λ c. search needs)
     (λ c. c .before .before .before .before .spread .kept .1 .1 .0)
@@ -48,11 +50,12 @@ encode-spec =
     let sized = spread .before .before .before in
     let told = sized .before in
     let start = told .before .before .before .before .before .before in
-    let passed = sym (told .before .before .encode-checks .ensures) ∙ ap toldOutcome (told .enum-told .given .1) in
+    let passed = told-done (encodeChecks (start .args .k) (start .args .n) (start .args .message .now) (length (start .args .out .now)) (length (start .args .work .now))) _ (told .before .before .encode-checks .ensures) (told .enum-told .given .1) in
     ap₂ (left (result [])) (spread .spread .ensures .0)
-    (part-zeroed _ _ (start .args .work .now) (encode-room (start .args .n) _ (sized .size .ensures)) (encode-passed (start .args .k) (start .args .n) (start .args .message .now) _ _ passed .3) _ (spread .spread .ensures .1))
-    ∙ leaves-done _ _ _ _ passed)
+    (part-zeroed _ _ (start .args .work .now) (encode-room (start .args .n) _ (sized .size .ensures)) (encode-passed (start .args .k) (start .args .n) (start .args .message .now) (length (start .args .out .now)) (length (start .args .work .now)) passed .3) _ (spread .spread .ensures .1))
+    ∙ leaves-done (encodeChecks (start .args .k) (start .args .n) (start .args .message .now) (length (start .args .out .now)) (length (start .args .work .now))) _ _ _ passed)
     (λ c.
     let known = c .before in
-    leaves-refused _ (known .refusal .given .0 .0) _ _ _
-    (sym (known .before .before .encode-checks .ensures) ∙ ap toldOutcome (known .refusal .given .1))))
+    let start = known .before .before .before .before .before .before in
+    leaves-refused (encodeChecks (start .args .k) (start .args .n) (start .args .message .now) (length (start .args .out .now)) (length (start .args .work .now))) (known .refusal .given .0 .0) _ _ _
+    (told-refused (encodeChecks (start .args .k) (start .args .n) (start .args .message .now) (length (start .args .out .now)) (length (start .args .work .now))) _ _ (known .before .before .encode-checks .ensures) (known .refusal .given .1))))

@@ -17,7 +17,7 @@ use Rattle.field.specs.Values.{refuseAbove}
 use Rattle.field.specs.declared.refusal.Refusal.the-variants.{Shape, Length, Room, Few, Position, Repeat}
 use Rattle.field.proofs.Leaves.{stops, goes-on, stops-at, passes-all}
 use Rattle.field.proofs.Shape.{shape-good}
-use Rattle.field.proofs.Size.{size-le}
+use Rattle.field.proofs.Size.{size-small}
 use Rattle.field.proofs.Values.{above-found, above-none}
 use Rattle.block.specs.Checks.{decodeChecks}
 use Rattle.block.specs.Held.{held}
@@ -78,7 +78,7 @@ decode-checks-spec =
     goes-on Shape _ (sym (c .before .before .bad-shape .ensures) ∙ c .before .if1 .left)
     (stops Length _ (ap not (ne-eqb _ _ (c .if2 .taken)))))
     (λ c κs. search needs)
-    (λ c. omega (arith, c .size .ensures, size-le (c .before .before .before .before .before .before .args .n)))
+    (λ c. omega (arith, size-small _ _ (c .size .ensures)))
     (λ c κs. search needs)
     (λ c.
     let roomy = c in

@@ -10,7 +10,7 @@ use lib.Dec.{ltb}
 use Rattle.field.specs.Size.{sizeOf}
 use Rattle.field.specs.declared.refusal.Refusal.the-variants.{Shape, Length, Room}
 use Rattle.field.proofs.Leaves.{stops, goes-on}
-use Rattle.field.proofs.Size.{size-le}
+use Rattle.field.proofs.Size.{size-small}
 use Rattle.field.proofs.Values.{above-found, above-none}
 use Rattle.block.specs.Checks.{encodeChecks}
 use Rattle.block.specs.Rooms.{encodeRoom}
@@ -33,7 +33,7 @@ encode-checks-spec =
     goes-on Shape _ (sym (c .before .before .bad-shape .ensures) ∙ c .before .if1 .left)
     (stops Length _ (ap not (ne-eqb _ _ (c .if2 .taken)))))
     (λ c κs. search needs)
-    (λ c. omega (arith, c .size .ensures, size-le (c .before .before .before .before .before .args .n)))
+    (λ c. omega (arith, size-small _ _ (c .size .ensures)))
     (λ c κs. search needs)
     (λ c.
     let sized = c .before .before in

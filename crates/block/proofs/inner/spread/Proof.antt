@@ -8,7 +8,7 @@ use borrow.Author.Needs.{needs}
 use lib.ListN.{replicate}
 use Rattle.field.specs.Leaves.{written}
 use Rattle.block.specs.Rooms.{encodeRoom}
-use Rattle.block.proofs.Spreading.{message-fits, still-room, part-ready, word, word-inside, word-fits, cells-length}
+use Rattle.block.proofs.Spreading.{n-fits, message-fits, still-room, part-ready, word, word-inside, word-fits, cells-length}
 use Rattle.block.proofs.inner.spread.Statement.{statement}
 use Rattle.block.proofs.inner.spread.Tie as tie
 
@@ -31,7 +31,7 @@ spread-spec =
     let laid-out = c .before .before in
     let sized = c .before .before .before .before in
     let start = c .before .before .before .before .before .before .before .before in
-    still-room (start .args .n) _ (start .args .message .now) (start .args .cells .now) (start .pre .0) (sized .size .ensures) (start .pre .2) (laid-out .lay .last .1 .0) (laid-out .lay .ensures))
+    omega (arith, sized .size .ensures, still-room (start .args .n) _ (start .args .message .now) (start .args .cells .now) (start .pre .0) (sized .size .ensures) (start .pre .2) (laid-out .lay .last .1 .0) (laid-out .lay .ensures), n-fits (start .args .n) (start .args .message .now) (start .pre .0)))
     (λ c κs.
     let laid-out = c .before .before .before in
     let sized = c .before .before .before .before .before in

@@ -1,7 +1,7 @@
 -- `transform::calls::call` meets its contract: what the checks refuse leaves all as it was; else the list is worked on in place and the working
 -- space cleared.
 -- Assumes nothing.
-use mathlib.Core.Path.{sym, ap, ap₂, _∙_}
+use mathlib.Core.Path.{ap₂, _∙_}
 use mathlib.Core.List.{[]}
 use Prim.Native.Nat.{ℕ, _-_}
 use native.Mathlib.Omega.{arith}
@@ -9,8 +9,8 @@ use borrow.Author.Needs.{needs}
 use lib.ListN.{length}
 use lib.Seq.{length-front}
 use Rattle.field.specs.Leaves.{left}
-use Rattle.field.specs.Refusals.{result, toldOutcome}
-use Rattle.field.proofs.Leaves.{leaves-done, leaves-refused, zeroed-part}
+use Rattle.field.specs.Refusals.{result}
+use Rattle.field.proofs.Leaves.{told-done, told-refused, leaves-done, leaves-refused, zeroed-part}
 use Rattle.transform.proofs.Judged.{judged-good}
 use Rattle.transform.proofs.calls.call.Statement.{statement}
 use Rattle.transform.proofs.calls.call.Tie as tie
@@ -23,12 +23,12 @@ call-spec =
     (λ c. search needs)
     (λ c κs.
     let told = c .before in
-    judged-good _ _ (sym (told .before .before .judge .ensures) ∙ ap toldOutcome (told .enum-told .given .1)) .ready)
+    judged-good _ _ (told-done _ _ (told .before .before .judge .ensures) (told .enum-told .given .1)) .ready)
     (λ c. search needs)
     (λ c. search needs)
     (λ c.
     let told = c .before .before .before .before in
-    omega (arith, judged-good _ _ (sym (told .before .before .judge .ensures) ∙ ap toldOutcome (told .enum-told .given .1)) .enough))
+    omega (arith, judged-good _ _ (told-done _ _ (told .before .before .judge .ensures) (told .enum-told .given .1)) .enough))
     (λ c κs. search needs)
     (λ c. search needs)
     (λ c. search needs)
@@ -42,7 +42,7 @@ call-spec =
     let told = worked .before .before in
     let judged = told .before .before in
     let start = judged .before .before .before .before in
-    let good = sym (judged .judge .ensures) ∙ ap toldOutcome (told .enum-told .given .1) in
+    let good = told-done _ _ (judged .judge .ensures) (told .enum-told .given .1) in
     ap₂ (left (result [])) (worked .one-of .ensures)
     (zeroed-part (length (start .args .list .now)) _ (start .args .work .now) (judged-good _ _ good .enough) (cleared .clear .ensures))
     ∙ leaves-done _ _ _ _ good)
@@ -51,4 +51,4 @@ call-spec =
     let known = c .before in
     let judged = known .before .before in
     leaves-refused _ (known .refusal .given .0 .0) _ _ _
-    (sym (judged .judge .ensures) ∙ ap toldOutcome (known .refusal .given .1))))
+    (told-refused _ _ _ (judged .judge .ensures) (known .refusal .given .1))))

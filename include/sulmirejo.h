@@ -3,7 +3,7 @@
  * This file is the manual. The functions are in libsulmirejo.a (`rt staticlib sulmirejo`), for x86-64 Linux. Each is proved to do what is
  * written here, for every argument that the types allow, as long as the caller keeps four rules that no function can test:
  *   - a pointer is not null, is aligned for its type, and points to as many elements as the count behind it says, to one if there is none;
- *   - those elements may be read and written;
+ *   - those elements may be read and, where the pointer is not to const, written;
  *   - they have values: memory that was never written is set first, to anything;
  *   - buffers of one call do not overlap, and nobody else uses them during the call.
  * There is no state: calls on different buffers may run at the same time in different threads. Nothing is allocated. No call fails but by a
@@ -15,15 +15,18 @@
  * place, which is 0 unless a place is stated below, and on success with 0. The checks of a call are made in the order of their numbers, each
  * over the whole list before the next, and the first that fails is the answer.
  *
- *     uint32_t list[4] = {1, 2, 0, 0}, work[4] = {0};
+ *     uint32_t message[2] = {1, 2}, word[4] = {0}, back[2] = {0}, work[16] = {0};
  *     size_t number = 0;
- *     uint32_t status = sulmirejo_transform(list, 4, work, 4, &number);
- *     if (status == SULMIREJO_VALUE)
- *         printf("list[%zu] is above 65536\n", number);
+ *     if (sulmirejo_encode(2, 4, message, 2, word, 4, work, 16, &number) != SULMIREJO_OK)
+ *         return 1;
+ *     uint32_t positions[2] = {3, 1}, values[2] = {word[3], word[1]}; // the other two were lost
+ *     uint32_t status = sulmirejo_decode(2, 4, positions, 2, values, 2, back, 2, work, 16, &number);
+ *     if (status == SULMIREJO_DISAGREE)
+ *         printf("a symbol was altered\n");
  *     else if (status != SULMIREJO_OK)
- *         printf("refused: %u\n", (unsigned)status);
+ *         printf("refused: %u, place %zu\n", (unsigned)status, number);
  *     else
- *         printf("%u %u %u %u\n", list[0], list[1], list[2], list[3]); // prints 3 65026 65536 513
+ *         printf("%u %u\n", (unsigned)back[0], (unsigned)back[1]); // prints 1 2
  */
 #ifndef SULMIREJO_H
 #define SULMIREJO_H

@@ -1,20 +1,20 @@
 -- `block::checks::decode_checks` meets its contract: SHAPE, LENGTH, ROOM, FEW, POSITION, REPEAT, VALUE, in that order.
 -- Assumes nothing.
 use mathlib.Core.Path.{_≡_, sym, ap, _∙_}
-use mathlib.Core.Bool.{Bool, false, _||_, not}
+use mathlib.Core.Bool.{Bool, true, false, _||_, not}
 use mathlib.Core.List.{List, []}
-use Prim.Native.Nat.{ℕ, _*_, _≤_}
+use Prim.Native.Nat.{ℕ, _*_, _<_, _≤_}
 use native.Mathlib.Nat.{le-of-eq, le-trans, lt-of-lt-of-le}
 use native.Mathlib.Omega.{arith}
 use borrow.Author.Needs.{needs}
 use borrow.Author.Tests.{lt-ltb, le-ltb, eq-eqb, ne-eqb}
 use lib.Dec.{ltb}
 use lib.ListN.{length}
-use Rattle.field.specs.Refusals.{Answer, result, refuseIf}
+use Rattle.field.specs.Refusals.{Answer, result, refused, refuseIf}
 use Rattle.field.specs.Shape.{longest, badShape}
 use Rattle.field.specs.Size.{sizeOf}
-use Rattle.field.specs.Values.{refuseAbove}
-use Rattle.field.specs.declared.refusal.Refusal.the-variants.{Shape, Length, Room, Few, Position, Repeat}
+use Rattle.field.specs.Values.{firstAbove, refuseAbove}
+use Rattle.field.specs.declared.refusal.Refusal.the-variants.{Shape, Length, Room, Few, Position, Repeat, Value}
 use Rattle.field.proofs.Leaves.{stops, goes-on, stops-at, passes-all}
 use Rattle.field.proofs.Shape.{shape-good}
 use Rattle.field.proofs.Size.{size-small}
@@ -42,6 +42,14 @@ module _ (k n : ℕ) (positions values : List ℕ) (out work : ℕ) where
   from-few : Answer
   from-few = refuseIf (ltb (length positions) k) Few from-position
 
+  at-shape : badShape k n ≡ true → refused Shape ≡ decodeChecks k n positions values out work
+  unfolding decodeChecks
+  at-shape bad = stops Shape _ bad
+
+  at-length : badShape k n ≡ false → ¬ (length positions ≡ length values) → refused Length ≡ decodeChecks k n positions values out work
+  unfolding decodeChecks
+  at-length shape unequal = goes-on Shape _ shape (stops Length _ (ap not (ne-eqb _ _ unequal)))
+
   -- N and short are what the calls gave that work the room out and compare it
   to-room : {a : Answer} (N : ℕ) (short : Bool) → N ≡ sizeOf n → short ≡ ltb out k || ltb work (4 * N) → badShape k n ≡ false
       → length positions ≡ length values → a ≡ refuseIf short Room from-few → a ≡ decodeChecks k n positions values out work
@@ -51,92 +59,106 @@ module _ (k n : ℕ) (positions values : List ℕ) (out work : ℕ) where
       (goes-on Length _ (ap not (eq-eqb _ _ paired))
       (rest ∙ ap (λ (b : Bool). refuseIf b Room from-few) (is ∙ ap (λ (m : ℕ). ltb out k || ltb work (4 * m)) size)))
 
+  at-room : (N : ℕ) (short : Bool) → N ≡ sizeOf n → short ≡ ltb out k || ltb work (4 * N) → badShape k n ≡ false
+      → length positions ≡ length values → short ≡ true → refused Room ≡ decodeChecks k n positions values out work
+  at-room N short size is shape paired bad = to-room N short size is shape paired (stops Room _ bad)
+
+  past-room : {a : Answer} (N : ℕ) (short : Bool) → N ≡ sizeOf n → short ≡ ltb out k || ltb work (4 * N) → badShape k n ≡ false
+      → length positions ≡ length values → short ≡ false → a ≡ from-few → a ≡ decodeChecks k n positions values out work
+  past-room N short size is shape paired roomy rest = to-room N short size is shape paired (goes-on Room _ roomy rest)
+
   to-few : {a : Answer} → k ≤ length positions → a ≡ from-position → a ≡ from-few
   unfolding from-few
   to-few enough rest = goes-on Few _ (le-ltb _ _ enough) rest
+
+  at-few : length positions < k → refused Few ≡ from-few
+  unfolding from-few
+  at-few few = stops Few _ (lt-ltb _ _ few)
 
   to-position : {a : Answer} (i : ℕ) → i ≡ firstOutside n positions → length positions ≤ i → a ≡ from-repeat → a ≡ from-position
   unfolding from-position
   to-position i is none rest = passes-all Position _ _ _ is none rest
 
+  at-position : (i : ℕ) → i ≡ firstOutside n positions → i < length positions → refused (Position i) ≡ from-position
+  unfolding from-position
+  at-position i is found = stops-at Position _ _ _ is found
+
   to-repeat : {a : Answer} (i : ℕ) → i ≡ firstRepeat positions → length positions ≤ i → a ≡ from-value → a ≡ from-repeat
   unfolding from-repeat
   to-repeat i is none rest = passes-all Repeat _ _ _ is none rest
 
-  all-inside : (i : ℕ) → i ≡ firstOutside n positions → length positions ≤ i → badShape k n ≡ false → Inside longest positions
-  all-inside i is none shape j l =
-      lt-of-lt-of-le (outside-none n positions (le-trans none (le-of-eq is)) j l) (shape-good k n shape .2)
+  at-repeat : (i : ℕ) → i ≡ firstRepeat positions → i < length positions → refused (Repeat i) ≡ from-repeat
+  unfolding from-repeat
+  at-repeat i is found = stops-at Repeat _ _ _ is found
+
+  at-value : (i : ℕ) → i ≡ firstAbove values → i < length values → refused (Value i) ≡ from-value
+  unfolding from-value
+  at-value i is found = above-found values _ is found
+
+  past-value : (i : ℕ) → i ≡ firstAbove values → length values ≤ i → result [] ≡ from-value
+  unfolding from-value
+  past-value i is none = above-none values _ is none
+
+all-inside : (k n : ℕ) (positions : List ℕ) (i : ℕ) → i ≡ firstOutside n positions → length positions ≤ i → badShape k n ≡ false
+    → Inside longest positions
+all-inside k n positions i is none shape j l =
+    lt-of-lt-of-le (outside-none n positions (le-trans none (le-of-eq is)) j l) (shape-good k n shape .2)
 
 pub decode-checks-spec : {M : Type 1} → statement M
-unfolding decodeChecks from-few from-position from-repeat from-value
 decode-checks-spec =
     tie.close
     (tie.spec
     (λ c κs. search needs)
-    (λ c. stops Shape _ (sym (c .before .bad-shape .ensures) ∙ c .if1 .taken))
-    (λ c.
-    goes-on Shape _ (sym (c .before .before .bad-shape .ensures) ∙ c .before .if1 .left)
-    (stops Length _ (ap not (ne-eqb _ _ (c .if2 .taken)))))
+    (λ c. at-shape _ _ _ _ _ _ (sym (c .before .bad-shape .ensures) ∙ c .if1 .taken))
+    (λ c. at-length _ _ _ _ _ _ (sym (c .before .before .bad-shape .ensures) ∙ c .before .if1 .left) (c .if2 .taken))
     (λ c κs. search needs)
     (λ c. omega (arith, size-small _ _ (c .size .ensures)))
     (λ c κs. search needs)
     (λ c.
-    let roomy = c in
-    let sized = roomy .before .before in
-    let start = sized .before .before .before .before .before .before in
-    to-room (start .args .k) (start .args .n) (start .args .positions .now) (start .args .values .now) (start .args .out) (start .args .work) _ _ (sized .size .ensures) (roomy .before .too-short .ensures) (sym (sized .before .before .before .bad-shape .ensures) ∙ sized .before .before .if1 .left) (sized .before .if2 .left)
-    (stops Room _ (c .if3 .taken)))
+    let sized = c .before .before in
+    at-room _ _ _ _ _ _ _ _ (sized .size .ensures) (c .before .too-short .ensures) (sym (sized .before .before .before .bad-shape .ensures) ∙ sized .before .before .if1 .left) (sized .before .if2 .left)
+    (c .if3 .taken))
     (λ c.
     let roomy = c .before in
     let sized = roomy .before .before in
-    let start = sized .before .before .before .before .before .before in
-    to-room (start .args .k) (start .args .n) (start .args .positions .now) (start .args .values .now) (start .args .out) (start .args .work) _ _ (sized .size .ensures) (roomy .before .too-short .ensures) (sym (sized .before .before .before .bad-shape .ensures) ∙ sized .before .before .if1 .left) (sized .before .if2 .left)
-    (goes-on Room _ (roomy .if3 .left) (stops Few _ (lt-ltb _ _ (c .if4 .taken)))))
+    past-room _ _ _ _ _ _ _ _ (sized .size .ensures) (roomy .before .too-short .ensures) (sym (sized .before .before .before .bad-shape .ensures) ∙ sized .before .before .if1 .left) (sized .before .if2 .left) (roomy .if3 .left)
+    (at-few _ _ _ _ _ _ (c .if4 .taken)))
     (λ c κs. search needs)
     (λ c.
     let roomy = c .before .before .before in
     let sized = roomy .before .before in
-    let start = sized .before .before .before .before .before .before in
-    to-room (start .args .k) (start .args .n) (start .args .positions .now) (start .args .values .now) (start .args .out) (start .args .work) _ _ (sized .size .ensures) (roomy .before .too-short .ensures) (sym (sized .before .before .before .bad-shape .ensures) ∙ sized .before .before .if1 .left) (sized .before .if2 .left)
-    (goes-on Room _ (roomy .if3 .left)
-    (to-few (start .args .k) (start .args .n) (start .args .positions .now) (start .args .values .now) (start .args .out) (start .args .work) (c .before .before .if4 .left)
-    (stops-at Position _ _ _ (c .before .first-outside .ensures) (c .if5 .taken)))))
+    past-room _ _ _ _ _ _ _ _ (sized .size .ensures) (roomy .before .too-short .ensures) (sym (sized .before .before .before .bad-shape .ensures) ∙ sized .before .before .if1 .left) (sized .before .if2 .left) (roomy .if3 .left)
+    (to-few _ _ _ _ _ _ (c .before .before .if4 .left)
+    (at-position _ _ _ _ _ _ _ (c .before .first-outside .ensures) (c .if5 .taken))))
     (λ c κs.
     let sized = c .before .before .before .before .before in
-    let start = sized .before .before .before .before .before .before in
-    all-inside (start .args .k) (start .args .n) (start .args .positions .now) (start .args .values .now) (start .args .out) (start .args .work) _ (c .before .first-outside .ensures) (c .if5 .left) (sym (sized .before .before .before .bad-shape .ensures) ∙ sized .before .before .if1 .left))
+    all-inside _ _ (sized .before .before .before .before .before .before .args .positions .now) _ (c .before .first-outside .ensures) (c .if5 .left) (sym (sized .before .before .before .bad-shape .ensures) ∙ sized .before .before .if1 .left))
     (λ c.
     let outside = c .before .before in
     let roomy = c .before .before .before .before .before in
     let sized = roomy .before .before in
-    let start = sized .before .before .before .before .before .before in
-    to-room (start .args .k) (start .args .n) (start .args .positions .now) (start .args .values .now) (start .args .out) (start .args .work) _ _ (sized .size .ensures) (roomy .before .too-short .ensures) (sym (sized .before .before .before .bad-shape .ensures) ∙ sized .before .before .if1 .left) (sized .before .if2 .left)
-    (goes-on Room _ (roomy .if3 .left)
-    (to-few (start .args .k) (start .args .n) (start .args .positions .now) (start .args .values .now) (start .args .out) (start .args .work) (outside .before .before .if4 .left)
-    (to-position (start .args .k) (start .args .n) (start .args .positions .now) (start .args .values .now) (start .args .out) (start .args .work) _ (outside .before .first-outside .ensures) (outside .if5 .left)
-    (stops-at Repeat _ _ _ (c .before .first-repeat .ensures) (c .if6 .taken))))))
+    past-room _ _ _ _ _ _ _ _ (sized .size .ensures) (roomy .before .too-short .ensures) (sym (sized .before .before .before .bad-shape .ensures) ∙ sized .before .before .if1 .left) (sized .before .if2 .left) (roomy .if3 .left)
+    (to-few _ _ _ _ _ _ (outside .before .before .if4 .left)
+    (to-position _ _ _ _ _ _ _ (outside .before .first-outside .ensures) (outside .if5 .left)
+    (at-repeat _ _ _ _ _ _ _ (c .before .first-repeat .ensures) (c .if6 .taken)))))
     (λ c κs. search needs)
     (λ c.
     let repeat = c .before .before in
     let outside = repeat .before .before in
     let roomy = c .before .before .before .before .before .before .before in
     let sized = roomy .before .before in
-    let start = sized .before .before .before .before .before .before in
-    to-room (start .args .k) (start .args .n) (start .args .positions .now) (start .args .values .now) (start .args .out) (start .args .work) _ _ (sized .size .ensures) (roomy .before .too-short .ensures) (sym (sized .before .before .before .bad-shape .ensures) ∙ sized .before .before .if1 .left) (sized .before .if2 .left)
-    (goes-on Room _ (roomy .if3 .left)
-    (to-few (start .args .k) (start .args .n) (start .args .positions .now) (start .args .values .now) (start .args .out) (start .args .work) (outside .before .before .if4 .left)
-    (to-position (start .args .k) (start .args .n) (start .args .positions .now) (start .args .values .now) (start .args .out) (start .args .work) _ (outside .before .first-outside .ensures) (outside .if5 .left)
-    (to-repeat (start .args .k) (start .args .n) (start .args .positions .now) (start .args .values .now) (start .args .out) (start .args .work) _ (repeat .before .first-repeat .ensures) (repeat .if6 .left)
-    (above-found _ _ (c .before .first-above .ensures) (c .if7 .taken)))))))
+    past-room _ _ _ _ _ _ _ _ (sized .size .ensures) (roomy .before .too-short .ensures) (sym (sized .before .before .before .bad-shape .ensures) ∙ sized .before .before .if1 .left) (sized .before .if2 .left) (roomy .if3 .left)
+    (to-few _ _ _ _ _ _ (outside .before .before .if4 .left)
+    (to-position _ _ _ _ _ _ _ (outside .before .first-outside .ensures) (outside .if5 .left)
+    (to-repeat _ _ _ _ _ _ _ (repeat .before .first-repeat .ensures) (repeat .if6 .left)
+    (at-value _ _ _ _ _ _ _ (c .before .first-above .ensures) (c .if7 .taken))))))
     (λ c.
     let repeat = c .before .before in
     let outside = repeat .before .before in
     let roomy = c .before .before .before .before .before .before .before in
     let sized = roomy .before .before in
-    let start = sized .before .before .before .before .before .before in
-    to-room (start .args .k) (start .args .n) (start .args .positions .now) (start .args .values .now) (start .args .out) (start .args .work) _ _ (sized .size .ensures) (roomy .before .too-short .ensures) (sym (sized .before .before .before .bad-shape .ensures) ∙ sized .before .before .if1 .left) (sized .before .if2 .left)
-    (goes-on Room _ (roomy .if3 .left)
-    (to-few (start .args .k) (start .args .n) (start .args .positions .now) (start .args .values .now) (start .args .out) (start .args .work) (outside .before .before .if4 .left)
-    (to-position (start .args .k) (start .args .n) (start .args .positions .now) (start .args .values .now) (start .args .out) (start .args .work) _ (outside .before .first-outside .ensures) (outside .if5 .left)
-    (to-repeat (start .args .k) (start .args .n) (start .args .positions .now) (start .args .values .now) (start .args .out) (start .args .work) _ (repeat .before .first-repeat .ensures) (repeat .if6 .left)
-    (above-none _ _ (c .before .first-above .ensures) (c .if7 .left))))))))
+    past-room _ _ _ _ _ _ _ _ (sized .size .ensures) (roomy .before .too-short .ensures) (sym (sized .before .before .before .bad-shape .ensures) ∙ sized .before .before .if1 .left) (sized .before .if2 .left) (roomy .if3 .left)
+    (to-few _ _ _ _ _ _ (outside .before .before .if4 .left)
+    (to-position _ _ _ _ _ _ _ (outside .before .first-outside .ensures) (outside .if5 .left)
+    (to-repeat _ _ _ _ _ _ _ (repeat .before .first-repeat .ensures) (repeat .if6 .left)
+    (past-value _ _ _ _ _ _ _ (c .before .first-above .ensures) (c .if7 .left)))))))

@@ -24,6 +24,7 @@ ghost use Rattle.block.specs.Meeting.{messageOf};
 ghost use Rattle.block.specs.Ready.{Ready, Codable};
 ghost use Rattle.block.specs.Rooms.{encodeRoom, decodeRoom};
 
+// At the front of to, which stays as it was behind it.
 pub fn copy(from: &[u32], to: &mut [u32])
     requires { ⌜ length (now from) ≤ length (now to) ⌝ }
     ensures { λ _. ⌜ now (to .exit) ≡ written (now (from .entry)) (now (to .entry)) ⌝ }

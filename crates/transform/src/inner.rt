@@ -137,10 +137,10 @@ pub fn inverse(list: &mut [u32])
 pub fn clear(cells: &mut [u32])
     ensures { λ _. ⌜ now (cells .exit) ≡ replicate (length (now (cells .entry))) 0 ⌝ }
 {
-    let mut i = 0;
-    while i < cells.len() {
-        cells[i] = 0;
-        i += 1;
+    let mut at = 0;
+    while at < cells.len() {
+        cells[at] = 0;
+        at += 1;
     }
 }
 

@@ -11,10 +11,10 @@ use Rattle.transform.proofs.inner.clear.Statement.{statement}
 use Rattle.transform.proofs.inner.clear.Tie as tie
 
 abbrev Inv-loop : tie.InvT-loop
-Inv-loop cells₀ i₀ cells i = (i ≤ length cells₀) × (length cells ≡ length cells₀) × (cells ≡ replicate i 0 ++ drop i cells₀)
+Inv-loop cells₀ at₀ cells at = (at ≤ length cells₀) × (length cells ≡ length cells₀) × (cells ≡ replicate at 0 ++ drop at cells₀)
 
 abbrev μ-loop : tie.MeasureT-loop
-μ-loop cells₀ i₀ cells i = length cells₀ - i
+μ-loop cells₀ at₀ cells at = length cells₀ - at
 
 whole : (i : ℕ) (d : List ℕ) → i ≤ length d → length d ≤ i → replicate i 0 ++ drop i d ≡ replicate (length d) 0
 whole i d h l =
@@ -33,6 +33,6 @@ clear-spec =
     (λ c. search needs)
     (λ c.
     let l = c .before .loop in
-    (search needs, search needs, ap (λ (s : List ℕ). set s (l .i) 0) (l .inv .2) ∙ fill-more (l .i) 0 _ (search needs)))
+    (search needs, search needs, ap (λ (s : List ℕ). set s (l .at) 0) (l .inv .2) ∙ fill-more (l .at) 0 _ (search needs)))
     (λ c. search needs)
-    (λ c. let l = c .before .loop in l .inv .2 ∙ whole (l .i) _ (l .inv .0) (search needs)))
+    (λ c. let l = c .before .loop in l .inv .2 ∙ whole (l .at) _ (l .inv .0) (search needs)))

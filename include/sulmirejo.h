@@ -5,7 +5,7 @@
  *   - a pointer is not null, is aligned for its type, and points to as many elements as the count behind it says, to one if there is none;
  *   - those elements may be read and, where the pointer is not to const, written;
  *   - they have values: memory that was never written is set first, to anything;
- *   - buffers of one call do not overlap, and nobody else uses them during the call.
+ *   - buffers of one call do not overlap, and during the call nobody else writes them, nor reads those that the call may write.
  * There is no state: calls on different buffers may run at the same time in different threads. Nothing is allocated. No call fails but by a
  * refusal, given the stack that it needs: the deepest call is a small function that calls itself thirteen deep.
  *
@@ -19,8 +19,8 @@
  *     size_t number = 0;
  *     if (sulmirejo_encode(2, 4, message, 2, word, 4, work, 16, &number) != SULMIREJO_OK)
  *         return 1;
- *     uint32_t positions[2] = {3, 1}, values[2] = {word[3], word[1]}; // the other two were lost
- *     uint32_t status = sulmirejo_decode(2, 4, positions, 2, values, 2, back, 2, work, 16, &number);
+ *     uint32_t positions[3] = {3, 1, 0}, values[3] = {word[3], word[1], word[0]}; // word[2] was lost
+ *     uint32_t status = sulmirejo_decode(2, 4, positions, 3, values, 3, back, 2, work, 16, &number);
  *     if (status == SULMIREJO_DISAGREE)
  *         printf("a symbol was altered\n");
  *     else if (status != SULMIREJO_OK)
@@ -85,7 +85,8 @@ uint32_t sulmirejo_encode(size_t k, size_t n, const uint32_t *message, size_t me
 
 /* The message of which values[j] is the symbol at positions[j] of the code word, for every j: all m = positions_len symbols are compared, also
  * where k of them would do. Positions may come in any order. Where no message fits all m, the answer is DISAGREE: with at most m - k altered
- * values the result is the message that was sent or DISAGREE, never another. The output is k numbers, the working space 4*N, N being the
+ * values the result is the message that was sent or DISAGREE, never another. With m = k some message always fits, so that no alteration can be
+ * seen: give every symbol that there is. The output is k numbers, the working space 4*N, N being the
  * smallest power of two that is at least n, whatever they held.
  *
  * Refusals: SHAPE where k is 0 or above n, or n above 4096; LENGTH where values_len is not positions_len; ROOM where out_len is below k or

@@ -1,5 +1,5 @@
 /* Encoding and decoding of one block, called from C: the cases that document 01 names and those on which its rules turn. The answers are
- * written down by hand; only the code words of long lists come from the second coder. Guard cells stand round every buffer, every lent cell
+ * written down by hand; only the code words of junk messages come from the second coder. Guard cells stand round every buffer, every lent cell
  * holds junk before each call, and every cell is compared after it, those of the lists that are only read too. */
 #include "lent.h"
 #include "second.h"
@@ -85,7 +85,7 @@ static void try_encoding(const struct encoding *one)
     memset(due_of(&work), 0, one->zero * sizeof(uint32_t));
     status = sulmirejo_encode(one->k, one->n, lend(&message), message.room, lend(&out), out.room, lend(&work), work.room, lend_number());
     expect(status == one->status, one->what, one->n, status);
-    expect_number(one->place, one->n);
+    expect_number(one->place, one->what, one->n);
     expect_due(&message, one->what, "message", one->n);
     expect_due(&out, one->what, "output", one->n);
     expect_due(&work, one->what, "working space", one->n);
@@ -103,7 +103,7 @@ static void try_decoding(const struct decoding *one)
     status = sulmirejo_decode(one->k, one->n, lend(&positions), positions.room, lend(&values), values.room, lend(&out), out.room,
                               lend(&work), work.room, lend_number());
     expect(status == one->status, one->what, one->n, status);
-    expect_number(one->place, one->n);
+    expect_number(one->place, one->what, one->n);
     expect_due(&positions, one->what, "positions", one->n);
     expect_due(&values, one->what, "values", one->n);
     expect_due(&out, one->what, "output", one->n);

@@ -476,7 +476,7 @@ static void try_longer(void)
     send_word(LONGEST, LONGEST);
 }
 
-/* Prints how often each answer of a call was seen, and how often the rarest two faults were tried at once. A run in which one of them never
+/* Prints how often each answer of a call was seen, and how often the rarest two faults were put in at once. A run in which one of them never
  * came up shows less than it should, and fails. */
 static void report(const struct call *call)
 {
@@ -505,8 +505,10 @@ int main(void)
     report(&encode);
     report(&decode);
     printf("decode of good lists: none altered %lu, 1 to m - k altered %lu, more altered %lu\n", unaltered, altered_few, altered_many);
-    if (unaltered == 0 || altered_few == 0 || altered_many == 0)
+    if (unaltered == 0 || altered_few == 0 || altered_many == 0) {
+        printf("FAILED: one of these never came up\n");
         return 1;
+    }
     printf("compare: %lu calls, 0 differ\n", calls);
     return 0;
 }

@@ -66,7 +66,7 @@ static void expect_result(call *function, const char *name, size_t size, size_t 
     remember(&list);
     remember(&work);
     expect(function(lend(&list), size, lend(&work), room, lend_number()) == SULMIREJO_OK, name, size, 0);
-    expect_number(0, size);
+    expect_number(0, name, size);
     for (size_t i = 0; i < size; i++) {
         expect(lend(&list)[i] == expected[i], name, size, i);
         expect(lend(&work)[i] == 0, "working space zero", size, i);
@@ -82,7 +82,7 @@ static void expect_refusal(size_t size, size_t room, uint32_t refusal, size_t pl
         remember(&list);
         remember(&work);
         expect(both[i](lend(&list), size, lend(&work), room, lend_number()) == refusal, "refusal", size, room);
-        expect_number(place, size);
+        expect_number(place, "refusal", size);
         expect_untouched_after(&list, 0, "list untouched on a refusal");
         expect_untouched_after(&work, 0, "working space untouched on a refusal");
     }
@@ -176,7 +176,7 @@ static void expect_point(size_t n, size_t position, uint32_t status, size_t plac
     uint32_t cells[3] = {junk(), junk(), junk()}, before[3];
     memcpy(before, cells, sizeof cells);
     expect(sulmirejo_point(n, position, cells + 1, lend_number()) == status, "point", n, position);
-    expect_number(place, n);
+    expect_number(place, "point", n);
     expect(cells[0] == before[0] && cells[2] == before[2], "guards of a point", n, position);
     expect(cells[1] == (status == SULMIREJO_OK ? value : before[1]), "value of a point", n, position);
 }

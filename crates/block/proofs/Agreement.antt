@@ -25,7 +25,7 @@ use Rattle.block.specs.Decoding.{pointsOf}
 use Rattle.block.specs.Meeting.{polynomialOf, messageOf}
 use Rattle.block.specs.Message.{IsMessage}
 use Rattle.block.specs.Positions.{Inside}
-use Rattle.block.specs.Ready.{Apart}
+use Rattle.block.specs.Repeats.{Apart}
 use Rattle.block.proofs.Meeting.{message-polynomial, polynomial-long, polynomial-symbols}
 use Rattle.block.proofs.Points.{points-length, points-at, points-apart}
 

@@ -10,7 +10,7 @@ use lib.Dec.{eqb}
 use lib.ListN.{length, getD}
 use Rattle.field.proofs.Shape.{shape-good}
 use Rattle.poly.proofs.Sum.{total-ext, total-none, total-zero}
-use Rattle.block.specs.Altered.{altered}
+use Rattle.block.specs.Altered.{alteredCount}
 use Rattle.block.specs.Code.{symbolOf}
 use Rattle.block.specs.Fits.{Fits}
 use Rattle.block.specs.Held.{Held}
@@ -23,28 +23,28 @@ module _ (k n : ℕ) (sent : List ℕ) (h : Held) where
   unaltered true e = refl
   unaltered false e = absurd (omega arith)
 
-  pub none-fits : IsMessage k sent → altered n sent h ≡ 0 → Fits k n h sent
-  unfolding altered
+  pub none-fits : IsMessage k sent → alteredCount n sent h ≡ 0 → Fits k n h sent
+  unfolding alteredCount
   none-fits is none =
       record {
         message = is;
         at = λ j l. eqb-true _ _ (unaltered _ (total-none (length (h .positions)) _ none j l));
       }
 
-  pub fits-none : Fits k n h sent → altered n sent h ≡ 0
-  unfolding altered
+  pub fits-none : Fits k n h sent → alteredCount n sent h ≡ 0
+  unfolding alteredCount
   fits-none fits =
       total-ext (length (h .positions)) _ (λ j. 0) (λ j l. ap (λ (b : Bool). cond b 0 1) (eq-eqb _ _ (fits .at j l)))
       ∙ total-zero (length (h .positions))
 
   -- a held symbol is altered where the code word of a message that fits differs
-  altered-differing : (t : List ℕ) → Fits k n h t → altered n sent h ≡ differing n sent t (h .positions)
-  unfolding altered differing
+  altered-differing : (t : List ℕ) → Fits k n h t → alteredCount n sent h ≡ differing n sent t (h .positions)
+  unfolding alteredCount differing
   altered-differing t fits =
       total-ext (length (h .positions)) _ _
       (λ j l. ap (λ (v : ℕ). cond (eqb (symbolOf n sent (getD (h .positions) j 0)) v) 0 1) (sym (fits .at j l)))
 
-  pub few-altered : Ready k n h → IsMessage k sent → altered n sent h + k ≤ length (h .positions) → (t : List ℕ) → Fits k n h t → sent ≡ t
+  pub few-altered : Ready k n h → IsMessage k sent → alteredCount n sent h + k ≤ length (h .positions) → (t : List ℕ) → Fits k n h t → sent ≡ t
   few-altered ready is few t fits =
       few-differ k n sent t (h .positions) (shape-good k n (ready .shape) .2) is (fits .message) (ready .inside) (ready .apart)
       (omega (arith, altered-differing t fits))

@@ -31,20 +31,20 @@ use Rattle.block.specs.Ready.{Ready}
 use Rattle.block.proofs.Meeting.{message-polynomial, message-of, polynomial-long, polynomial-symbols}
 use Rattle.block.proofs.Points.{points-length, points-at, points-apart}
 
-pub symbol-≈ : (n : ℕ) (s : List ℕ) (p : ℕ) → symbolOf n s p ≈ value (polynomialOf s) (pointOf (sizeOf n) p)
+symbol-≈ : (n : ℕ) (s : List ℕ) (p : ℕ) → symbolOf n s p ≈ value (polynomialOf s) (pointOf (sizeOf n) p)
 unfolding symbolOf
 symbol-≈ n s p = mod-≈ _
 
 -- The comparison of all m
 
 module _ (n : ℕ) (h : Held) (s : List ℕ) where
-  pub right-at : length (h .positions) ≤ firstWrong n h s → (j : ℕ) → j < length (h .positions)
+  right-at : length (h .positions) ≤ firstWrong n h s → (j : ℕ) → j < length (h .positions)
       → symbolOf n s (getD (h .positions) j 0) ≡ getD (h .values) j 0
   unfolding firstWrong
   right-at all j l =
       eqb-true _ _ (not-false _ (first-before (length (h .positions)) _ j (lt-of-lt-of-le l all)))
 
-  pub all-right : ((j : ℕ) → j < length (h .positions) → symbolOf n s (getD (h .positions) j 0) ≡ getD (h .values) j 0)
+  all-right : ((j : ℕ) → j < length (h .positions) → symbolOf n s (getD (h .positions) j 0) ≡ getD (h .values) j 0)
       → firstWrong n h s ≡ length (h .positions)
   unfolding firstWrong
   all-right right = first-none (length (h .positions)) _ (λ j l. ap not (eq-eqb _ _ (right j l)))
@@ -73,12 +73,12 @@ module _ (k n : ℕ) (h : Held) (ready : Ready k n h) where
       at : (j : ℕ) → j < k → value f (getD (pointsOf k n (h .positions)) j 0) ≈ getD (take k (h .values)) j 0
       at j l = rw (points-at k n (h .positions) j l, getD-take k (h .values) j 0 l) (right j l)
 
-  pub candidate-message : IsMessage k (candidate k n h)
+  candidate-message : IsMessage k (candidate k n h)
   unfolding candidate
   candidate-message =
       message-of k _ (through-length _ _ lengths ∙ points-length k n (h .positions)) (symbols-at _ (through-symbols _ _))
 
-  pub fits-candidate : (s : List ℕ) → Fits k n h s → s ≡ candidate k n h
+  fits-candidate : (s : List ℕ) → Fits k n h s → s ≡ candidate k n h
   fits-candidate s fits =
       sym (message-polynomial s)
       ∙ only-candidate (polynomialOf s) (polynomial-long k s (fits .message)) (polynomial-symbols k s (fits .message))

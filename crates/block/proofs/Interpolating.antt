@@ -63,9 +63,9 @@ module _ (k : ℕ) (cells : List ℕ) (long : length cells ≡ 2 * k + 1) where
   unfolding withPoint added
   back x y = drop-at (added k (factorOf k x y cells) cells) _ k (tab-length k _)
 
-none : (x : ℕ) → difference 0 (product x 0) ≡ 0
+zero-coefficient : (x : ℕ) → difference 0 (product x 0) ≡ 0
 unfolding difference product
-none x = rw mul-zero
+zero-coefficient x = rw mul-zero
 
 -- One point more
 
@@ -155,7 +155,7 @@ module _ (k t : ℕ) (x y : ℕ → ℕ) (cells : List ℕ) (b : Built k t x y c
       raised-zero (inr before) =
           raised-at (x t) 0 (take k (drop k cells)) (suc i) (omega (arith, low-length k cells (b .long)))
           ∙ ap₂ (λ (u v : ℕ). difference u (product (x t) v)) (low-zero i h (omega arith)) (low-zero (suc i) (omega arith) before)
-          ∙ none (x t)
+          ∙ zero-coefficient (x t)
 
 pub built-more : (k t : ℕ) (x y : ℕ → ℕ) (cells : List ℕ) → Built k t x y cells → t < k → ((j : ℕ) → j < t → ¬ (x j ≈ x t))
     → Built k (suc t) x y (withPoint k (x t) (y t) cells)
@@ -237,7 +237,7 @@ module _ (k : ℕ) (w : List ℕ) (long : length w ≡ 2 * k + 1) where
         ap length is ∙ length-append (added k c w) (drop k w)
         ∙ omega (arith, tab-length k (λ i. sum (getD w i 0) (product c (getD w (k + i) 0))), length-drop k w)
 
-    pub lent : take (length m - k) (drop k m) ≡ drop k w
+    lent : take (length m - k) (drop k m) ≡ drop k w
     lent = ap₂ (λ (n : ℕ) (s : List ℕ). take (n - k) s) m-length m-back ∙ tail
 
     pub lent-some : 0 < length (take (length m - k) (drop k m))

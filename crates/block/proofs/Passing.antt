@@ -12,12 +12,13 @@ use Rattle.field.specs.Refusals.{result}
 use Rattle.field.specs.Shape.{badShape}
 use Rattle.field.specs.Values.{firstAbove}
 use Rattle.field.specs.declared.refusal.Refusal.the-variants.{Shape, Length, Room, Few, Position, Repeat, Value}
-use Rattle.field.proofs.Leaves.{passed, or-false}
+use Rattle.field.proofs.Checks.{passed, or-false}
 use Rattle.field.proofs.Values.{all-symbols, none-above}
 use Rattle.block.specs.Checks.{encodeChecks, decodeChecks}
 use Rattle.block.specs.Held.{held}
 use Rattle.block.specs.Positions.{firstOutside}
-use Rattle.block.specs.Ready.{Ready, Codable}
+use Rattle.block.specs.Codable.{Codable}
+use Rattle.block.specs.Ready.{Ready}
 use Rattle.block.specs.Repeats.{firstRepeat}
 use Rattle.block.specs.Rooms.{encodeRoom, decodeRoom}
 use Rattle.block.proofs.Outside.{outside-none, none-outside}

@@ -19,9 +19,9 @@ use Rattle.poly.proofs.Distinct.{distinct-tab}
 use Rattle.poly.proofs.Tab.{tab-length, tab-at}
 use Rattle.block.specs.Decoding.{pointsOf}
 use Rattle.block.specs.Positions.{Inside}
-use Rattle.block.specs.Ready.{Apart}
+use Rattle.block.specs.Repeats.{Apart}
 
-pub point-lt : (N i : ℕ) → pointOf N i < 65537
+point-lt : (N i : ℕ) → pointOf N i < 65537
 unfolding pointOf
 point-lt N i = power-lt _ i
 

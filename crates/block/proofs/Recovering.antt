@@ -1,8 +1,8 @@
 -- The candidate compared with all m, and what decode then leaves: the message in the output or DISAGREE, and zero in the cells.
 -- Assumes nothing.
-use mathlib.Core.Path.{_≡_, sym, ap, ap₂, _∙_}
+use mathlib.Core.Path.{_≡_, refl, sym, ap, ap₂, _∙_}
 use mathlib.Core.Bool.{Bool, true, false, cond}
-use mathlib.Core.List.{List, [], _++_, append-nil}
+use mathlib.Core.List.{List, [], _++_}
 use mathlib.Core.Option.{Option, some, none}
 use Prim.Native.Nat.{ℕ, _+_, _-_, _*_, _≤_}
 use native.Mathlib.Decide.{decLe}
@@ -10,11 +10,12 @@ use native.Mathlib.Nat.{le-trans, lt-of-not-le}
 use native.Mathlib.Omega.{arith}
 use borrow.Author.Tests.{lt-ltb, le-ltb, le-leb, lt-leb}
 use lib.Dec.{ltb, leb}
-use lib.ListN.{length, take, drop, replicate, length-append, drop-of-length-le}
-use lib.Seq.{length-take-le, take-append-le}
+use lib.ListN.{length, take, drop, replicate, length-append}
+use lib.Seq.{take-append-le}
 use Rattle.field.specs.Leaves.{left, written, zeroed}
 use Rattle.field.specs.Refusals.{result, refused}
 use Rattle.field.specs.declared.refusal.Refusal.the-variants.{Disagree}
+use Rattle.field.proofs.Leaves.{lent-length, zeroed-all}
 use Rattle.field.proofs.Shape.{shape-good, longest-le}
 use Rattle.field.proofs.Size.{size-enough}
 use Rattle.block.specs.Calls.{decoded}
@@ -40,16 +41,16 @@ module _ (k n : ℕ) (h : Held) (ready : Ready k n h) (cells : List ℕ) (long :
       let good = shape-good k n (ready .shape) in
       omega (arith, good .0, good .1, size-enough n (le-trans (good .2) longest-le), long)
 
-  pub lent-length : length (take (2 * k + 1 - 0) cells) ≡ 2 * k + 1
-  lent-length = length-take-le (2 * k + 1 - 0) cells (omega (arith, cells-enough)) ∙ omega arith
+  pub part-length : length (take (2 * k + 1 - 0) cells) ≡ 2 * k + 1
+  part-length = lent-length (2 * k + 1) (2 * k + 1) cells refl cells-enough
 
   -- e is what the lent cells hold once the candidate is found
   module _ (e : List ℕ) (same : length e ≡ length (take (2 * k + 1 - 0) cells)) where
     pub front-inside : k ≤ length (e ++ drop (2 * k + 1 - 0) cells)
-    front-inside = omega (arith, length-append e (drop (2 * k + 1 - 0) cells), same, lent-length)
+    front-inside = omega (arith, length-append e (drop (2 * k + 1 - 0) cells), same, part-length)
 
     front : take k (e ++ drop (2 * k + 1 - 0) cells) ≡ take k e
-    front = take-append-le k e _ (omega (arith, same, lent-length))
+    front = take-append-le k e _ (omega (arith, same, part-length))
 
     pub solved : (w : ℕ) → messageOf (take k e) ≡ candidate k n h
         → w ≡ firstWrong n h (messageOf (take (k - 0) (e ++ drop (2 * k + 1 - 0) cells)))
@@ -70,11 +71,7 @@ module _ (k n : ℕ) (h : Held) (ready : Ready k n h) (cells : List ℕ) (long :
 
 module _ (k n : ℕ) (h : Held) (out cells s cleared : List ℕ) (long : length cells ≡ decodeRoom n) (same : length s ≡ length cells) (clear : cleared ≡ replicate (length s) 0) where
   all-zero : cleared ≡ zeroed (decodeRoom n) cells
-  all-zero =
-      clear
-      ∙ ap (λ (m : ℕ). replicate m 0) (same ∙ long)
-      ∙ sym (append-nil (replicate (decodeRoom n) 0))
-      ∙ ap (replicate (decodeRoom n) 0 ++_) (sym (drop-of-length-le cells {i = decodeRoom n} (omega arith)))
+  all-zero = clear ∙ ap (λ (m : ℕ). replicate m 0) (same ∙ long) ∙ sym (zeroed-all (decodeRoom n) cells long)
 
   pub recovered : (b : Bool) (o : List ℕ) → decodeOf k n h ≡ cond b (some (messageOf (take k s))) none → b ≡ true
       → o ≡ written (take (k - 0) s) out → left (result []) o cleared ≡ decoded (decodeOf k n h) n out cells

@@ -11,6 +11,7 @@ use lib.Seq.{length-take-le, take-at, take-append-le, getD-take, ext-getD}
 use Rattle.field.specs.Leaves.{written}
 use Rattle.field.specs.Points.{pointOf}
 use Rattle.field.specs.Size.{levelOf, sizeOf}
+use Rattle.field.proofs.Leaves.{lent-length}
 use Rattle.field.proofs.Shape.{shape-good, longest-le}
 use Rattle.field.proofs.Size.{level-le, size-power, size-enough}
 use Rattle.poly.specs.Value.{value}
@@ -23,7 +24,7 @@ use Rattle.transform.specs.Transform.{transformOf}
 use Rattle.transform.proofs.Ready.{ready-of}
 use Rattle.transform.proofs.Theorems.{transform-is-value, transform-symbols}
 use Rattle.block.specs.Code.{symbolOf, codeWord}
-use Rattle.block.specs.Ready.{Codable}
+use Rattle.block.specs.Codable.{Codable}
 use Rattle.block.specs.Rooms.{encodeRoom}
 use Rattle.block.proofs.Meeting.{polynomial-is}
 
@@ -62,7 +63,7 @@ module _ (n : ℕ) (message : List ℕ) (good : Codable n message) where
   k-fits = le-trans (shape-good _ n (good .shape) .1) n-fits
 
   -- the coefficients
-  pub full : List ℕ
+  full : List ℕ
   full = message ++ replicate (sizeOf n - length message) 0
 
   full-length : length full ≡ sizeOf n
@@ -71,7 +72,7 @@ module _ (n : ℕ) (message : List ℕ) (good : Codable n message) where
       length-append message (replicate (sizeOf n - length message) 0)
       ∙ omega (arith, k-fits, length-replicate {A = ℕ} (sizeOf n - length message) 0)
 
-  pub full-ready : Ready full
+  full-ready : Ready full
   unfolding full
   full-ready =
       ready-of (levelOf n) (level-le n) full (full-length ∙ size-power n)
@@ -86,7 +87,7 @@ module _ (n : ℕ) (message : List ℕ) (good : Codable n message) where
         ap (x ^ length message *_) (value-zeros (sizeOf n - length message) x),
       )
 
-  pub kept-front : take n (transformOf full) ≡ codeWord n message
+  kept-front : take n (transformOf full) ≡ codeWord n message
   unfolding codeWord symbolOf
   kept-front =
       ext-getD 0 (take n (transformOf full)) (codeWord n message) (long ∙ sym (tab-length n _))
@@ -112,7 +113,7 @@ module _ (n : ℕ) (message : List ℕ) (good : Codable n message) where
 module _ (n S : ℕ) (message cells : List ℕ) (good : Codable n message) (size : S ≡ sizeOf n) (long : length cells ≡ encodeRoom n) where
   part-length : length (take (S - 0) cells) ≡ sizeOf n
   unfolding encodeRoom
-  part-length = length-take-le (S - 0) cells (omega arith) ∙ omega arith
+  part-length = lent-length S (sizeOf n) cells size (omega arith)
 
   pub message-fits : length message ≤ length (take (S - 0) cells)
   message-fits = omega (arith, part-length, k-fits n message good)

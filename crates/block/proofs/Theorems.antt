@@ -26,7 +26,7 @@ use Rattle.poly.specs.Tab.{tab}
 use Rattle.poly.specs.Value.{value}
 use Rattle.poly.proofs.Symbols.{tab-symbols}
 use Rattle.poly.proofs.Tab.{tab-length, tab-at}
-use Rattle.block.specs.Altered.{altered}
+use Rattle.block.specs.Altered.{alteredCount}
 use Rattle.block.specs.Calls.{decoded, decodeLeaves}
 use Rattle.block.specs.Checks.{encodeChecks, decodeChecks}
 use Rattle.block.specs.Code.{symbolOf, codeWord}
@@ -157,17 +157,17 @@ unfolding held
 never-another k n sent positions values ready is few =
     record {
       never-another =
-          elim (eq-or-lt-of-le {m = altered n sent (held positions values)} zero-le)
+          elim (eq-or-lt-of-le {m = alteredCount n sent (held positions values)} zero-le)
           [ inl all ↦ inl (sound (sym all)) | inr any ↦ inr (broken any) ];
       none-altered = sound;
       some-altered = broken;
     }
   where
-    sound : altered n sent (held positions values) ≡ 0 → Decodes k n positions values sent
+    sound : alteredCount n sent (held positions values) ≡ 0 → Decodes k n positions values sent
     sound all = fitting-decodes k n positions values ready sent (none-fits k n sent _ is all)
 
     -- a message that fits would be the sent one
-    broken : 0 < altered n sent (held positions values) → Disagrees k n positions values
+    broken : 0 < alteredCount n sent (held positions values) → Disagrees k n positions values
     broken any =
         none-disagrees k n positions values ready
         (λ t fits. omega (arith, fits-none k n sent _ (subst (Fits k n _) (sym (few-altered k n sent _ ready is few t fits)) fits)))
@@ -191,13 +191,13 @@ unfolding firstAbove first
 greatest = is-message (65536 ∷ []) refl
 
 worked : {sent : List ℕ} → IsMessage 2 sent → (positions values : List ℕ) → decodeChecks 2 4 positions values 2 (decodeRoom 4) ≡ result []
-    → altered 4 sent (held positions values) + 2 ≤ length positions → Demand3 2 4 sent positions values
+    → alteredCount 4 sent (held positions values) + 2 ≤ length positions → Demand3 2 4 sent positions values
 unfolding held
 worked is positions values passes =
     never-another 2 4 _ positions values (decode-passed 2 4 positions values 2 (decodeRoom 4) passes .0) is
 
 pub worked-numbers : WorkedNumbers
-unfolding decodeChecks badShape longest decodeRoom held firstOutside firstRepeat standsEarlier firstAbove first codeWord tab symbolOf polynomialOf value pointOf power rootOf root roots sizeOf levelOf altered total
+unfolding decodeChecks badShape longest decodeRoom held firstOutside firstRepeat standsEarlier firstAbove first codeWord tab symbolOf polynomialOf value pointOf power rootOf root roots sizeOf levelOf alteredCount total
 worked-numbers =
     record {
       p5 = encodes-word 2 3 (1 ∷ 2 ∷ []) refl one-two;

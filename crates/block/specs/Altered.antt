@@ -3,11 +3,11 @@ use mathlib.Core.Bool.{cond}
 use mathlib.Core.List.{List}
 use Prim.Native.Nat.{ℕ}
 use lib.Dec.{eqb}
-use lib.ListN.{length, getD}
+use lib.ListN.{getD}
 use Rattle.poly.specs.Sum.{total}
 use Rattle.block.specs.Code.{symbolOf}
-use Rattle.block.specs.Held.{Held}
+use Rattle.block.specs.Held.{Held, heldCount}
 
-unfoldable pub altered : ℕ → List ℕ → Held → ℕ
-altered n sent h =
-    total (length (h .positions)) (λ j. cond (eqb (symbolOf n sent (getD (h .positions) j 0)) (getD (h .values) j 0)) 0 1)
+unfoldable pub alteredCount : ℕ → List ℕ → Held → ℕ
+alteredCount n sent h =
+    total (heldCount h) (λ j. cond (eqb (symbolOf n sent (getD (h .positions) j 0)) (getD (h .values) j 0)) 0 1)

@@ -1,4 +1,4 @@
--- The checks of encode and decode, in the order of the numbers, each over the whole list before the next.
+-- The checks of encode, and those of decode before DISAGREE, in the order of the numbers, each over the whole list before the next.
 use mathlib.Core.Bool.{_||_, not}
 use mathlib.Core.List.{List, []}
 use Prim.Native.Nat.{ℕ}
@@ -8,7 +8,7 @@ use Rattle.field.specs.Refusals.{Answer, result, refuseIf}
 use Rattle.field.specs.Shape.{badShape}
 use Rattle.field.specs.Values.{refuseAbove}
 use Rattle.field.specs.declared.refusal.Refusal.the-variants.{Shape, Length, Room, Few, Position, Repeat}
-use Rattle.block.specs.Held.{held}
+use Rattle.block.specs.Held.{held, heldCount}
 use Rattle.block.specs.Positions.{firstOutside}
 use Rattle.block.specs.Repeats.{firstRepeat}
 use Rattle.block.specs.Rooms.{encodeRoom, decodeRoom}
@@ -26,7 +26,7 @@ decodeChecks k n positions values out work =
     refuseIf (badShape k n) Shape
     (refuseIf (not (eqb (length positions) (length values))) Length
     (refuseIf (ltb out k || ltb work (decodeRoom n)) Room
-    (refuseIf (ltb (length (held positions values .positions)) k) Few
+    (refuseIf (ltb (heldCount (held positions values)) k) Few
     (refuseIf (ltb (firstOutside n positions) (length positions)) (Position (firstOutside n positions))
     (refuseIf (ltb (firstRepeat positions) (length positions)) (Repeat (firstRepeat positions))
     (refuseAbove values (result [])))))))

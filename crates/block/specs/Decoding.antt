@@ -5,14 +5,14 @@ use mathlib.Core.List.{List}
 use mathlib.Core.Option.{Option, some, none}
 use Prim.Native.Nat.{ℕ}
 use lib.Dec.{ltb, eqb}
-use lib.ListN.{length, getD, take}
+use lib.ListN.{getD, take}
 use Rattle.field.specs.First.{first}
 use Rattle.field.specs.Points.{pointOf}
 use Rattle.field.specs.Size.{sizeOf}
 use Rattle.poly.specs.Interpolation.{through}
 use Rattle.poly.specs.Tab.{tab}
 use Rattle.block.specs.Code.{symbolOf}
-use Rattle.block.specs.Held.{Held}
+use Rattle.block.specs.Held.{Held, heldCount}
 use Rattle.block.specs.Meeting.{messageOf}
 
 -- the points of the first m positions
@@ -26,7 +26,7 @@ candidate k n h = messageOf (through (pointsOf k n (h .positions)) (take k (h .v
 -- the first index at which a message has another value than is held, m where there is none
 unfoldable pub firstWrong : ℕ → Held → List ℕ → ℕ
 firstWrong n h s =
-    first (length (h .positions)) (λ j. not (eqb (symbolOf n s (getD (h .positions) j 0)) (getD (h .values) j 0)))
+    first (heldCount h) (λ j. not (eqb (symbolOf n s (getD (h .positions) j 0)) (getD (h .values) j 0)))
 
 unfoldable pub decodeOf : ℕ → ℕ → Held → Option (List ℕ)
-decodeOf k n h = cond (ltb (firstWrong n h (candidate k n h)) (length (h .positions))) none (some (candidate k n h))
+decodeOf k n h = cond (ltb (firstWrong n h (candidate k n h)) (heldCount h)) none (some (candidate k n h))

@@ -2,11 +2,11 @@
 use mathlib.Core.Path.{_≡_}
 use mathlib.Core.List.{List}
 use Prim.Native.Nat.{ℕ, _<_}
-use lib.ListN.{length, getD}
+use lib.ListN.{getD}
 use Rattle.block.specs.Code.{symbolOf}
-use Rattle.block.specs.Held.{Held}
+use Rattle.block.specs.Held.{Held, heldCount}
 use Rattle.block.specs.Message.{IsMessage}
 
 pub record Fits (k n : ℕ) (h : Held) (s : List ℕ) : Type 0 where
   pub message : IsMessage k s
-  pub at : (j : ℕ) → j < length (h .positions) → symbolOf n s (getD (h .positions) j 0) ≡ getD (h .values) j 0
+  pub at : (j : ℕ) → j < heldCount h → symbolOf n s (getD (h .positions) j 0) ≡ getD (h .values) j 0

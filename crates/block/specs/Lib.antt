@@ -11,6 +11,7 @@ pub mod Bitmap
 pub mod Rooms
 pub mod Checks
 pub mod Calls
+pub mod Codable
 pub mod Ready
 pub mod Altered
 pub mod Theorems

@@ -8,7 +8,7 @@ use Rattle.poly.specs.Raised.{raised}
 use Rattle.poly.specs.Tab.{tab}
 use Rattle.poly.specs.Value.{value}
 
--- F + c·L, without L's last coefficient
+-- F + c·L, without L's last coefficient, which is 0 as long as a point is still to come
 unfoldable pub added : ℕ → ℕ → List ℕ → List ℕ
 added k c cells = tab k (λ i. sum (getD cells i 0) (product c (getD cells (k + i) 0)))
 
@@ -17,6 +17,6 @@ unfoldable pub factorOf : ℕ → ℕ → ℕ → List ℕ → ℕ
 factorOf k x y cells =
     product (difference y (value (take k cells) x % 65537)) (inverse (value (drop k cells) x % 65537))
 
--- one point more: F + c·L, and (X - x)·L
+-- one point more: F + c·L, and (X - x)·L, whose last coefficient is 0 as long as a point is still to come
 unfoldable pub withPoint : ℕ → ℕ → ℕ → List ℕ → List ℕ
 withPoint k x y cells = added k (factorOf k x y cells) cells ++ raised x 0 (take k (drop k cells))

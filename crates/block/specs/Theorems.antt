@@ -12,16 +12,18 @@ use Rattle.field.specs.Shape.{longest, badShape}
 use Rattle.field.specs.Symbol.{Symbols}
 use Rattle.field.specs.declared.refusal.Refusal.the-variants.{Disagree}
 use Rattle.poly.specs.Tab.{tab}
-use Rattle.block.specs.Altered.{altered}
+use Rattle.block.specs.Altered.{alteredCount}
 use Rattle.block.specs.Calls.{encodeLeaves, decodeLeaves}
 use Rattle.block.specs.Checks.{encodeChecks, decodeChecks}
 use Rattle.block.specs.Code.{symbolOf, codeWord}
 use Rattle.block.specs.Decoding.{decodeOf}
 use Rattle.block.specs.Fits.{Fits}
-use Rattle.block.specs.Held.{Held, held}
+use Rattle.block.specs.Held.{Held, held, heldCount}
 use Rattle.block.specs.Message.{IsMessage}
 use Rattle.block.specs.Positions.{Inside}
-use Rattle.block.specs.Ready.{Apart, Ready, Codable}
+use Rattle.block.specs.Codable.{Codable}
+use Rattle.block.specs.Ready.{Ready}
+use Rattle.block.specs.Repeats.{Apart}
 use Rattle.block.specs.Rooms.{encodeRoom, decodeRoom}
 
 -- The code
@@ -95,7 +97,7 @@ EncodeDecode =
     → Inside n positions → Apart positions
     → Decodes k n positions (tab (length positions) (λ j. getD (codeWord n message) (getD positions j 0) 0)) message
 
--- DISAGREE is answered exactly when the other checks pass and no message fits
+-- demand 3, "exact DISAGREE": it is answered exactly when the other checks pass and no message fits
 abbrev pub DisagreeExactly : Type 0
 DisagreeExactly =
     (k n : ℕ) (positions values out work : List ℕ)
@@ -109,14 +111,14 @@ pub record Demand3 (k n : ℕ) (sent positions values : List ℕ) : Type 0 where
   -- decode's outcome is the sent message or DISAGREE, never another
   pub never-another : Decodes k n positions values sent ⊎ Disagrees k n positions values
   -- with none altered it is the message
-  pub none-altered : altered n sent (held positions values) ≡ 0 → Decodes k n positions values sent
+  pub none-altered : alteredCount n sent (held positions values) ≡ 0 → Decodes k n positions values sent
   -- with some altered it is DISAGREE
-  pub some-altered : 0 < altered n sent (held positions values) → Disagrees k n positions values
+  pub some-altered : 0 < alteredCount n sent (held positions values) → Disagrees k n positions values
 
 abbrev pub NeverAnother : Type 0
 NeverAnother =
     (k n : ℕ) (sent positions values : List ℕ) → Ready k n (held positions values) → IsMessage k sent
-    → altered n sent (held positions values) + k ≤ length (held positions values .positions) → Demand3 k n sent positions values
+    → alteredCount n sent (held positions values) + k ≤ heldCount (held positions values) → Demand3 k n sent positions values
 
 -- The worked numbers P5 to P10
 

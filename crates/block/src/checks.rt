@@ -1,11 +1,12 @@
 // The checks of encode and decode, in document 01's order. They write nothing.
 use crate::repeats::first_repeat;
+use crate::rooms::decode_room;
+use crate::rooms::encode_room;
 use field::Outcome;
 use field::Refusal;
 use field::inner::bad_shape;
 use field::inner::first_above;
 use field::inner::position;
-use field::inner::size;
 ghost use mathlib.Core.Path.{_≡_};
 ghost use mathlib.Core.Bool.{_||_};
 ghost use lib.Dec.{ltb};
@@ -19,8 +20,8 @@ fn first_outside(n: usize, positions: &[u32]) -> usize
 {
     let mut i = 0;
     while i < positions.len() {
-        let place = position(positions[i]);
-        if n <= place.0 {
+        let here = position(positions[i]);
+        if n <= here.0 {
             return i;
         }
         i += 1;
@@ -48,7 +49,7 @@ pub fn encode_checks(k: usize, n: usize, message: &[u32], out: usize, work: usiz
     if message.len() != k {
         return Outcome::Refused(Refusal::Length);
     }
-    if too_short(out, n, work, 2 * size(n)) {
+    if too_short(out, n, work, encode_room(n)) {
         return Outcome::Refused(Refusal::Room);
     }
     let above = first_above(message);
@@ -74,7 +75,7 @@ pub fn decode_checks(
     if positions.len() != values.len() {
         return Outcome::Refused(Refusal::Length);
     }
-    if too_short(out, k, work, 4 * size(n)) {
+    if too_short(out, k, work, decode_room(n)) {
         return Outcome::Refused(Refusal::Room);
     }
     if positions.len() < k {

@@ -21,7 +21,8 @@ ghost use Rattle.block.specs.Code.{codeWord};
 ghost use Rattle.block.specs.Decoding.{firstWrong, decodeOf};
 ghost use Rattle.block.specs.Held.{held};
 ghost use Rattle.block.specs.Meeting.{messageOf};
-ghost use Rattle.block.specs.Ready.{Ready, Codable};
+ghost use Rattle.block.specs.Codable.{Codable};
+ghost use Rattle.block.specs.Ready.{Ready};
 ghost use Rattle.block.specs.Rooms.{encodeRoom, decodeRoom};
 
 // At the front of to, which stays as it was behind it.
@@ -58,7 +59,7 @@ pub fn spread(n: usize, message: &[u32], out: &mut [u32], cells: &mut [u32])
     clear(cells);
 }
 
-// The first index at which the message of a polynomial has another value than is held: all m are compared.
+// The first index at which the message of a polynomial has another value than is held, m where there is none: all m are compared.
 fn first_wrong(n: usize, polynomial: &[u32], positions: &[u32], values: &[u32]) -> usize
     requires { ⌜ length (now positions) ≡ length (now values) ⌝ }
     ensures { λ r. ⌜ r ≡ firstWrong n (held (now (positions .entry)) (now (values .entry))) (messageOf (now (polynomial .entry))) ⌝ }
@@ -76,7 +77,7 @@ fn first_wrong(n: usize, polynomial: &[u32], positions: &[u32], values: &[u32]) 
 }
 
 // Whether a message fits, which then stands at the front of the stated working space.
-pub fn solve(k: usize, n: usize, positions: &[u32], values: &[u32], cells: &mut [u32]) -> bool
+fn solve(k: usize, n: usize, positions: &[u32], values: &[u32], cells: &mut [u32]) -> bool
     requires { ⌜ Ready k n (held (now positions) (now values)) × (length (now cells) ≡ decodeRoom n) ⌝ }
     ensures { λ r. ⌜ decodeOf k n (held (now (positions .entry)) (now (values .entry))) ≡ cond r (some (messageOf (take k (now (cells .exit))))) none ⌝ }
 {

@@ -4,6 +4,7 @@ mod checks;
 pub mod inner;
 mod newton;
 mod repeats;
+mod rooms;
 
 pub use calls::decode;
 pub use calls::encode;

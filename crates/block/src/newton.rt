@@ -20,7 +20,7 @@ ghost use Rattle.block.specs.Meeting.{messageOf};
 ghost use Rattle.block.specs.Newton.{added, withPoint};
 ghost use Rattle.block.specs.Ready.{Ready};
 
-// F + factor · L in place of F. L's last coefficient is 0 as long as a point is still to come.
+// F + factor · L in place of F, L's last coefficient left out.
 fn add_multiple(k: usize, cells: &mut [u32], factor: u32)
     requires { ⌜ (length (now cells) ≡ 2 * k + 1) × Symbols (now cells) ⌝ }
     ensures { λ _. ⌜ now (cells .exit) ≡ added k factor (now (cells .entry)) ++ drop k (now (cells .entry)) ⌝ }
@@ -33,7 +33,7 @@ fn add_multiple(k: usize, cells: &mut [u32], factor: u32)
     }
 }
 
-// (X - x) · L in place of L, whose last coefficient is 0 before.
+// (X - x) · L in place of L, whose last coefficient, 0 as long as a point is still to come, is left out.
 fn raise(cells: &mut [u32], x: u32)
     requires { ⌜ (0 < length (now cells)) × Symbols (now cells) ⌝ }
     ensures { λ _. ⌜ now (cells .exit) ≡ raised x 0 (take (length (now (cells .entry)) - 1) (now (cells .entry))) ⌝ }
@@ -50,19 +50,19 @@ fn raise(cells: &mut [u32], x: u32)
     cells[last] = passed;
 }
 
-// One point more.
+// One point more: c = (y - F(x)) / L(x), F + c · L in place of F, (X - x) · L in place of L.
 fn add_point(k: usize, x: u32, y: u32, cells: &mut [u32])
     requires { ⌜ (length (now cells) ≡ 2 * k + 1) × Symbols (now cells) × (y < 65537) ⌝ }
     ensures { λ _. ⌜ now (cells .exit) ≡ withPoint k x y (now (cells .entry)) ⌝ }
 {
-    let fitted = value(&cells[0..k], x);
-    let runs = value(&cells[k..], x);
-    let factor = product(difference(y, fitted), inverse(runs));
+    let f_of_x = value(&cells[0..k], x);
+    let l_of_x = value(&cells[k..], x);
+    let factor = product(difference(y, f_of_x), inverse(l_of_x));
     add_multiple(k, cells, factor);
     raise(&mut cells[k..], x);
 }
 
-// F = 0 and L = 1 before the first point.
+// F through the first k symbols: F = 0 and L = 1 before the first point, then one point more at a time.
 pub fn build(k: usize, n: usize, positions: &[u32], values: &[u32], cells: &mut [u32])
     requires { ⌜ Ready k n (held (now positions) (now values)) × (length (now cells) ≡ 2 * k + 1) ⌝ }
     ensures { λ _. ⌜ messageOf (take k (now (cells .exit))) ≡ candidate k n (held (now (positions .entry)) (now (values .entry))) ⌝ }

@@ -8,6 +8,7 @@ pub mod First
 pub mod Values
 pub mod Size
 pub mod Refusals
+pub mod Checks
 pub mod Leaves
 pub mod Shape
 pub mod Theorems

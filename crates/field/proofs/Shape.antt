@@ -4,10 +4,10 @@ use mathlib.Core.Path.{_≡_}
 use mathlib.Core.Bool.{false, _||_}
 use Prim.Native.Nat.{ℕ, _<_, _≤_}
 use native.Mathlib.Omega.{arith}
-use borrow.Author.Tests.{ltb-false, eqb-false, le-ltb, ne-eqb}
+use borrow.Author.Tests.{ltb-false, eqb-false}
 use lib.Dec.{ltb, eqb, lit≤}
 use Rattle.field.specs.Shape.{longest, badShape}
-use Rattle.field.proofs.Leaves.{or-false}
+use Rattle.field.proofs.Checks.{or-false}
 
 pub longest-le : longest ≤ 65536
 unfolding longest
@@ -19,7 +19,3 @@ shape-good k n e =
     let front = or-false (eqb k 0 || ltb n k) (ltb longest n) e in
     let none = or-false (eqb k 0) (ltb n k) (front .0) in
     (omega (arith, eqb-false k 0 (none .0)), ltb-false n k (none .1), ltb-false longest n (front .1))
-
-pub good-shape : (k n : ℕ) → 0 < k → k ≤ n → n ≤ longest → badShape k n ≡ false
-unfolding badShape
-good-shape k n some few short = simp (ne-eqb k 0 (λ e. omega arith), le-ltb n k few, le-ltb longest n short)

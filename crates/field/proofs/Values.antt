@@ -12,7 +12,7 @@ use Rattle.field.specs.Symbol.{Symbols}
 use Rattle.field.specs.Values.{firstAbove, refuseAbove}
 use Rattle.field.specs.declared.refusal.Refusal.the-variants.{Value}
 use Rattle.field.proofs.First.{first-before, first-none}
-use Rattle.field.proofs.Leaves.{stops-at, passes-all}
+use Rattle.field.proofs.Checks.{stops-at, passes-all}
 
 pub above-found : (values : List ℕ) (later : Answer) {x : ℕ} → x ≡ firstAbove values → x < length values
     → refused (Value x) ≡ refuseAbove values later

@@ -2,8 +2,8 @@
 -- Assumes nothing.
 use mathlib.Core.Path.{_≡_, refl, sym, ap, _∙_}
 use mathlib.Core.List.{List, [], _∷_}
-use Prim.Native.Nat.{ℕ, zero, suc, _+_, _*_, _<_, suc-le-suc}
-use native.Mathlib.Nat.{not-suc-le-zero, le-of-suc-le-suc, zero-lt-suc}
+use Prim.Native.Nat.{ℕ, suc, _+_, _*_, _<_, suc-le-suc}
+use native.Mathlib.Nat.{zero-lt-suc}
 use native.Mathlib.Omega.{arith}
 use lib.ListN.{length, getD}
 use Rattle.field.specs.Congruence.{_≈_}
@@ -81,20 +81,12 @@ through-fits (x ∷ xs) (y ∷ ys) size apart = (
     rest = through xs (slopes x y xs ys)
 
 -- a list fits where it has the right value at each index
-
 pub fits-of : (s xs ys : List ℕ) → length xs ≡ length ys → ((j : ℕ) → j < length xs → value s (getD xs j 0) ≈ getD ys j 0) → Fits s xs ys
 unfolding Fits
 fits-of s [] [] size at = tt
 fits-of s [] (y ∷ ys) size at = absurd (omega arith)
 fits-of s (x ∷ xs) [] size at = absurd (omega arith)
 fits-of s (x ∷ xs) (y ∷ ys) size at = (at 0 (zero-lt-suc _), fits-of s xs ys (omega arith) (λ j l. at (suc j) (suc-le-suc l)))
-
-pub fits-at : (s xs ys : List ℕ) → Fits s xs ys → (j : ℕ) → j < length xs → value s (getD xs j 0) ≈ getD ys j 0
-unfolding Fits
-fits-at s [] ys fits j l = absurd (not-suc-le-zero l)
-fits-at s (x ∷ xs) [] fits j l = absurd fits
-fits-at s (x ∷ xs) (y ∷ ys) fits zero l = fits .0
-fits-at s (x ∷ xs) (y ∷ ys) fits (suc j) l = fits-at s xs ys (fits .1) j (le-of-suc-le-suc l)
 
 -- two lists that fit have the same values
 fits-same : (s t xs ys : List ℕ) → Fits s xs ys → Fits t xs ys → Every (λ x. value s x ≈ value t x) xs

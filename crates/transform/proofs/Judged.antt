@@ -1,9 +1,9 @@
--- What the checks tell: where they pass, the list is ready and there is room; and what a call then leaves.
+-- What the checks tell: where they pass, the list is ready and there is room.
 -- Assumes nothing.
 use mathlib.Core.Path.{_≡_, refl, sym}
 use mathlib.Core.Bool.{false, _||_}
 use mathlib.Core.List.{List, []}
-use Prim.Native.Nat.{ℕ, _-_, _≤_}
+use Prim.Native.Nat.{ℕ, _≤_}
 use borrow.Author.Tests.{ltb-false, eqb-true, not-false}
 use lib.Dec.{ltb, eqb}
 use lib.ListN.{length}
@@ -12,7 +12,7 @@ use Rattle.field.specs.Shape.{longest}
 use Rattle.field.specs.Size.{sizeOf}
 use Rattle.field.specs.Values.{firstAbove}
 use Rattle.field.specs.declared.refusal.Refusal.the-variants.{Shape, Room, Value}
-use Rattle.field.proofs.Leaves.{passed, or-false}
+use Rattle.field.proofs.Checks.{passed, or-false}
 use Rattle.field.proofs.Values.{all-symbols}
 use Rattle.transform.specs.Calls.{judged}
 use Rattle.transform.specs.Lengths.{badLength}

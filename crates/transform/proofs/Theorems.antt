@@ -20,7 +20,8 @@ use Rattle.field.specs.Size.{levelOf, sizeOf}
 use Rattle.field.specs.Symbol.{Symbols}
 use Rattle.field.specs.Values.{firstAbove}
 use Rattle.field.proofs.Congruence.{≈-sym, mod-≈}
-use Rattle.field.proofs.Leaves.{or-false, settled}
+use Rattle.field.proofs.Checks.{or-false}
+use Rattle.field.proofs.Leaves.{settled}
 use Rattle.field.proofs.Ring.{product-lt}
 use Rattle.field.proofs.Size.{level-power, size-power, size-of-power}
 use Rattle.field.proofs.Values.{all-symbols}

@@ -100,8 +100,11 @@ int number_guards_hold(void)
     return numbers[0] == 77 && numbers[2] == 79;
 }
 
-void expect_number(size_t place, size_t size)
+void expect_number(size_t place, const char *what, size_t size)
 {
-    expect(number_written() == place, "number", size, number_written());
-    expect(number_guards_hold(), "guards of the number", size, 0);
+    char text[160];
+    snprintf(text, sizeof text, "%s: number", what);
+    expect(number_written() == place, text, size, number_written());
+    snprintf(text, sizeof text, "%s: guards of the number", what);
+    expect(number_guards_hold(), text, size, 0);
 }

@@ -43,6 +43,6 @@ void expect_untouched_after(const struct lent *buffer, size_t count, const char 
 size_t *lend_number(void);
 size_t number_written(void);
 int number_guards_hold(void);
-void expect_number(size_t place, size_t size);
+void expect_number(size_t place, const char *what, size_t size);
 
 #endif

@@ -3,17 +3,15 @@
 -- Assumes nothing.
 use mathlib.Core.Path.{ap₂, _∙_}
 use mathlib.Core.List.{[]}
-use Prim.Native.Nat.{ℕ, _-_, _*_}
+use Prim.Native.Nat.{ℕ, _-_}
 use native.Mathlib.Omega.{arith}
 use borrow.Author.Needs.{needs}
 use lib.ListN.{length}
 use lib.Seq.{length-front}
 use Rattle.field.specs.Leaves.{left}
 use Rattle.field.specs.Refusals.{result}
-use Rattle.field.proofs.Leaves.{told-done, told-refused, leaves-done, leaves-refused}
-use Rattle.field.proofs.Size.{size-small}
+use Rattle.field.proofs.Leaves.{told-done, told-refused, leaves-done, leaves-refused, lent-length, zeroed-part}
 use Rattle.block.specs.Checks.{encodeChecks}
-use Rattle.block.proofs.Calling.{encode-room, part-length, part-zeroed}
 use Rattle.block.proofs.Passing.{encode-passed}
 use Rattle.block.proofs.calls.encode.Statement.{statement}
 use Rattle.block.proofs.calls.encode.Tie as tie
@@ -25,34 +23,33 @@ encode-spec =
     (λ c κs. search needs)
     (λ c. search needs)
     (λ c κs. search needs)
-    (λ c. omega (arith, size-small _ _ (c .size .ensures)))
     (λ c. search needs)
     (λ c. search needs)
     (λ c.
-    let sized = c .before in
-    let told = sized .before in
+    let measured = c .before in
+    let told = measured .before in
     let start = told .before .before .before .before .before .before in
-    omega (arith, encode-room (start .args .n) _ (sized .size .ensures), encode-passed (start .args .k) (start .args .n) (start .args .message .now) (length (start .args .out .now)) (length (start .args .work .now)) (told-done (encodeChecks (start .args .k) (start .args .n) (start .args .message .now) (length (start .args .out .now)) (length (start .args .work .now))) _ (told .before .before .encode-checks .ensures) (told .enum-told .given .1)) .3))
+    omega (arith, measured .encode-room .ensures, encode-passed (start .args .k) (start .args .n) (start .args .message .now) (length (start .args .out .now)) (length (start .args .work .now)) (told-done (encodeChecks (start .args .k) (start .args .n) (start .args .message .now) (length (start .args .out .now)) (length (start .args .work .now))) _ (told .before .before .encode-checks .ensures) (told .enum-told .given .1)) .3))
     (λ c κs.
-    let sized = c .before .before in
-    let told = sized .before in
+    let measured = c .before .before in
+    let told = measured .before in
     let start = told .before .before .before .before .before .before in
     let good = encode-passed (start .args .k) (start .args .n) (start .args .message .now) (length (start .args .out .now)) (length (start .args .work .now)) (told-done (encodeChecks (start .args .k) (start .args .n) (start .args .message .now) (length (start .args .out .now)) (length (start .args .work .now))) _ (told .before .before .encode-checks .ensures) (told .enum-told .given .1)) in
-    (good .0, good .2, part-length _ _ _ (encode-room _ _ (sized .size .ensures)) (good .3)))
+    (good .0, good .2, lent-length _ _ _ (measured .encode-room .ensures) (good .3)))
     (λ c. search needs)
     (λ c. c .before .before .before .before .spread .kept .1 .1 .0)
     (λ c.
     let spread = c .before .before .before .before in
-    let sized = spread .before .before .before in
-    length-front {A = ℕ} (sized .before .before .before .before .before .before .before .args .work .now) (spread .spread .last .1 .1 .1 .0) (2 * sized .size .result - 0) (spread .spread .kept .1 .1 .1 .0))
+    let measured = spread .before .before .before in
+    length-front {A = ℕ} (measured .before .before .before .before .before .before .before .args .work .now) (spread .spread .last .1 .1 .1 .0) (measured .encode-room .result - 0) (spread .spread .kept .1 .1 .1 .0))
     (λ c.
     let spread = c .before .before .before .before in
-    let sized = spread .before .before .before in
-    let told = sized .before in
+    let measured = spread .before .before .before in
+    let told = measured .before in
     let start = told .before .before .before .before .before .before in
     let passed = told-done (encodeChecks (start .args .k) (start .args .n) (start .args .message .now) (length (start .args .out .now)) (length (start .args .work .now))) _ (told .before .before .encode-checks .ensures) (told .enum-told .given .1) in
     ap₂ (left (result [])) (spread .spread .ensures .0)
-    (part-zeroed _ _ (start .args .work .now) (encode-room (start .args .n) _ (sized .size .ensures)) (encode-passed (start .args .k) (start .args .n) (start .args .message .now) (length (start .args .out .now)) (length (start .args .work .now)) passed .3) _ (spread .spread .ensures .1))
+    (zeroed-part _ _ (start .args .work .now) (measured .encode-room .ensures) (encode-passed (start .args .k) (start .args .n) (start .args .message .now) (length (start .args .out .now)) (length (start .args .work .now)) passed .3) _ (spread .spread .ensures .1))
     ∙ leaves-done (encodeChecks (start .args .k) (start .args .n) (start .args .message .now) (length (start .args .out .now)) (length (start .args .work .now))) _ _ _ passed)
     (λ c.
     let known = c .before in

@@ -3,21 +3,18 @@
 use mathlib.Core.Path.{_≡_, sym, ap, _∙_}
 use mathlib.Core.Bool.{Bool, true, false, _||_, not}
 use mathlib.Core.List.{List, []}
-use Prim.Native.Nat.{ℕ, _*_, _<_, _≤_}
+use Prim.Native.Nat.{ℕ, _<_, _≤_}
 use native.Mathlib.Nat.{le-of-eq, le-trans, lt-of-lt-of-le}
-use native.Mathlib.Omega.{arith}
 use borrow.Author.Needs.{needs}
 use borrow.Author.Tests.{lt-ltb, le-ltb, eq-eqb, ne-eqb}
 use lib.Dec.{ltb}
 use lib.ListN.{length}
 use Rattle.field.specs.Refusals.{Answer, result, refused, refuseIf}
 use Rattle.field.specs.Shape.{longest, badShape}
-use Rattle.field.specs.Size.{sizeOf}
 use Rattle.field.specs.Values.{firstAbove, refuseAbove}
 use Rattle.field.specs.declared.refusal.Refusal.the-variants.{Shape, Length, Room, Few, Position, Repeat, Value}
-use Rattle.field.proofs.Leaves.{stops, goes-on, stops-at, passes-all}
+use Rattle.field.proofs.Checks.{stops, goes-on, stops-at, passes-all}
 use Rattle.field.proofs.Shape.{shape-good}
-use Rattle.field.proofs.Size.{size-small}
 use Rattle.field.proofs.Values.{above-found, above-none}
 use Rattle.block.specs.Checks.{decodeChecks}
 use Rattle.block.specs.Held.{held}
@@ -50,22 +47,22 @@ module _ (k n : ℕ) (positions values : List ℕ) (out work : ℕ) where
   unfolding decodeChecks
   at-length shape unequal = goes-on Shape _ shape (stops Length _ (ap not (ne-eqb _ _ unequal)))
 
-  -- N and short are what the calls gave that work the room out and compare it
-  to-room : {a : Answer} (N : ℕ) (short : Bool) → N ≡ sizeOf n → short ≡ ltb out k || ltb work (4 * N) → badShape k n ≡ false
+  -- stated and short are what the calls gave that work the room out and compare it
+  to-room : {a : Answer} (stated : ℕ) (short : Bool) → stated ≡ decodeRoom n → short ≡ ltb out k || ltb work stated → badShape k n ≡ false
       → length positions ≡ length values → a ≡ refuseIf short Room from-few → a ≡ decodeChecks k n positions values out work
-  unfolding decodeChecks decodeRoom held from-few from-position from-repeat from-value
-  to-room N short size is shape paired rest =
+  unfolding decodeChecks held from-few from-position from-repeat from-value
+  to-room stated short room is shape paired rest =
       goes-on Shape _ shape
       (goes-on Length _ (ap not (eq-eqb _ _ paired))
-      (rest ∙ ap (λ (b : Bool). refuseIf b Room from-few) (is ∙ ap (λ (m : ℕ). ltb out k || ltb work (4 * m)) size)))
+      (rest ∙ ap (λ (b : Bool). refuseIf b Room from-few) (is ∙ ap (λ (m : ℕ). ltb out k || ltb work m) room)))
 
-  at-room : (N : ℕ) (short : Bool) → N ≡ sizeOf n → short ≡ ltb out k || ltb work (4 * N) → badShape k n ≡ false
+  at-room : (stated : ℕ) (short : Bool) → stated ≡ decodeRoom n → short ≡ ltb out k || ltb work stated → badShape k n ≡ false
       → length positions ≡ length values → short ≡ true → refused Room ≡ decodeChecks k n positions values out work
-  at-room N short size is shape paired bad = to-room N short size is shape paired (stops Room _ bad)
+  at-room stated short room is shape paired bad = to-room stated short room is shape paired (stops Room _ bad)
 
-  past-room : {a : Answer} (N : ℕ) (short : Bool) → N ≡ sizeOf n → short ≡ ltb out k || ltb work (4 * N) → badShape k n ≡ false
+  past-room : {a : Answer} (stated : ℕ) (short : Bool) → stated ≡ decodeRoom n → short ≡ ltb out k || ltb work stated → badShape k n ≡ false
       → length positions ≡ length values → short ≡ false → a ≡ from-few → a ≡ decodeChecks k n positions values out work
-  past-room N short size is shape paired roomy rest = to-room N short size is shape paired (goes-on Room _ roomy rest)
+  past-room stated short room is shape paired roomy rest = to-room stated short room is shape paired (goes-on Room _ roomy rest)
 
   to-few : {a : Answer} → k ≤ length positions → a ≡ from-position → a ≡ from-few
   unfolding from-few
@@ -112,32 +109,31 @@ decode-checks-spec =
     (λ c. at-shape _ _ _ _ _ _ (sym (c .before .bad-shape .ensures) ∙ c .if1 .taken))
     (λ c. at-length _ _ _ _ _ _ (sym (c .before .before .bad-shape .ensures) ∙ c .before .if1 .left) (c .if2 .taken))
     (λ c κs. search needs)
-    (λ c. omega (arith, size-small _ _ (c .size .ensures)))
     (λ c κs. search needs)
     (λ c.
-    let sized = c .before .before in
-    at-room _ _ _ _ _ _ _ _ (sized .size .ensures) (c .before .too-short .ensures) (sym (sized .before .before .before .bad-shape .ensures) ∙ sized .before .before .if1 .left) (sized .before .if2 .left)
+    let measured = c .before .before in
+    at-room _ _ _ _ _ _ _ _ (measured .decode-room .ensures) (c .before .too-short .ensures) (sym (measured .before .before .before .bad-shape .ensures) ∙ measured .before .before .if1 .left) (measured .before .if2 .left)
     (c .if3 .taken))
     (λ c.
     let roomy = c .before in
-    let sized = roomy .before .before in
-    past-room _ _ _ _ _ _ _ _ (sized .size .ensures) (roomy .before .too-short .ensures) (sym (sized .before .before .before .bad-shape .ensures) ∙ sized .before .before .if1 .left) (sized .before .if2 .left) (roomy .if3 .left)
+    let measured = roomy .before .before in
+    past-room _ _ _ _ _ _ _ _ (measured .decode-room .ensures) (roomy .before .too-short .ensures) (sym (measured .before .before .before .bad-shape .ensures) ∙ measured .before .before .if1 .left) (measured .before .if2 .left) (roomy .if3 .left)
     (at-few _ _ _ _ _ _ (c .if4 .taken)))
     (λ c κs. search needs)
     (λ c.
     let roomy = c .before .before .before in
-    let sized = roomy .before .before in
-    past-room _ _ _ _ _ _ _ _ (sized .size .ensures) (roomy .before .too-short .ensures) (sym (sized .before .before .before .bad-shape .ensures) ∙ sized .before .before .if1 .left) (sized .before .if2 .left) (roomy .if3 .left)
+    let measured = roomy .before .before in
+    past-room _ _ _ _ _ _ _ _ (measured .decode-room .ensures) (roomy .before .too-short .ensures) (sym (measured .before .before .before .bad-shape .ensures) ∙ measured .before .before .if1 .left) (measured .before .if2 .left) (roomy .if3 .left)
     (to-few _ _ _ _ _ _ (c .before .before .if4 .left)
     (at-position _ _ _ _ _ _ _ (c .before .first-outside .ensures) (c .if5 .taken))))
     (λ c κs.
-    let sized = c .before .before .before .before .before in
-    all-inside _ _ (sized .before .before .before .before .before .before .args .positions .now) _ (c .before .first-outside .ensures) (c .if5 .left) (sym (sized .before .before .before .bad-shape .ensures) ∙ sized .before .before .if1 .left))
+    let measured = c .before .before .before .before .before in
+    all-inside _ _ (measured .before .before .before .before .before .before .args .positions .now) _ (c .before .first-outside .ensures) (c .if5 .left) (sym (measured .before .before .before .bad-shape .ensures) ∙ measured .before .before .if1 .left))
     (λ c.
     let outside = c .before .before in
     let roomy = c .before .before .before .before .before in
-    let sized = roomy .before .before in
-    past-room _ _ _ _ _ _ _ _ (sized .size .ensures) (roomy .before .too-short .ensures) (sym (sized .before .before .before .bad-shape .ensures) ∙ sized .before .before .if1 .left) (sized .before .if2 .left) (roomy .if3 .left)
+    let measured = roomy .before .before in
+    past-room _ _ _ _ _ _ _ _ (measured .decode-room .ensures) (roomy .before .too-short .ensures) (sym (measured .before .before .before .bad-shape .ensures) ∙ measured .before .before .if1 .left) (measured .before .if2 .left) (roomy .if3 .left)
     (to-few _ _ _ _ _ _ (outside .before .before .if4 .left)
     (to-position _ _ _ _ _ _ _ (outside .before .first-outside .ensures) (outside .if5 .left)
     (at-repeat _ _ _ _ _ _ _ (c .before .first-repeat .ensures) (c .if6 .taken)))))
@@ -146,8 +142,8 @@ decode-checks-spec =
     let repeat = c .before .before in
     let outside = repeat .before .before in
     let roomy = c .before .before .before .before .before .before .before in
-    let sized = roomy .before .before in
-    past-room _ _ _ _ _ _ _ _ (sized .size .ensures) (roomy .before .too-short .ensures) (sym (sized .before .before .before .bad-shape .ensures) ∙ sized .before .before .if1 .left) (sized .before .if2 .left) (roomy .if3 .left)
+    let measured = roomy .before .before in
+    past-room _ _ _ _ _ _ _ _ (measured .decode-room .ensures) (roomy .before .too-short .ensures) (sym (measured .before .before .before .bad-shape .ensures) ∙ measured .before .before .if1 .left) (measured .before .if2 .left) (roomy .if3 .left)
     (to-few _ _ _ _ _ _ (outside .before .before .if4 .left)
     (to-position _ _ _ _ _ _ _ (outside .before .first-outside .ensures) (outside .if5 .left)
     (to-repeat _ _ _ _ _ _ _ (repeat .before .first-repeat .ensures) (repeat .if6 .left)
@@ -156,8 +152,8 @@ decode-checks-spec =
     let repeat = c .before .before in
     let outside = repeat .before .before in
     let roomy = c .before .before .before .before .before .before .before in
-    let sized = roomy .before .before in
-    past-room _ _ _ _ _ _ _ _ (sized .size .ensures) (roomy .before .too-short .ensures) (sym (sized .before .before .before .bad-shape .ensures) ∙ sized .before .before .if1 .left) (sized .before .if2 .left) (roomy .if3 .left)
+    let measured = roomy .before .before in
+    past-room _ _ _ _ _ _ _ _ (measured .decode-room .ensures) (roomy .before .too-short .ensures) (sym (measured .before .before .before .bad-shape .ensures) ∙ measured .before .before .if1 .left) (measured .before .if2 .left) (roomy .if3 .left)
     (to-few _ _ _ _ _ _ (outside .before .before .if4 .left)
     (to-position _ _ _ _ _ _ _ (outside .before .first-outside .ensures) (outside .if5 .left)
     (to-repeat _ _ _ _ _ _ _ (repeat .before .first-repeat .ensures) (repeat .if6 .left)

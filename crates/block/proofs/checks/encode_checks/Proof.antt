@@ -2,15 +2,12 @@
 -- Assumes nothing.
 use mathlib.Core.Path.{_≡_, sym, ap, _∙_}
 use mathlib.Core.Bool.{Bool, _||_, not}
-use Prim.Native.Nat.{ℕ, _*_}
-use native.Mathlib.Omega.{arith}
+use Prim.Native.Nat.{ℕ}
 use borrow.Author.Needs.{needs}
 use borrow.Author.Tests.{eq-eqb, ne-eqb}
 use lib.Dec.{ltb}
-use Rattle.field.specs.Size.{sizeOf}
 use Rattle.field.specs.declared.refusal.Refusal.the-variants.{Shape, Length, Room}
-use Rattle.field.proofs.Leaves.{stops, goes-on}
-use Rattle.field.proofs.Size.{size-small}
+use Rattle.field.proofs.Checks.{stops, goes-on}
 use Rattle.field.proofs.Values.{above-found, above-none}
 use Rattle.block.specs.Checks.{encodeChecks}
 use Rattle.block.specs.Rooms.{encodeRoom}
@@ -18,9 +15,8 @@ use Rattle.block.proofs.checks.encode_checks.Statement.{statement}
 use Rattle.block.proofs.checks.encode_checks.Tie as tie
 
 -- what the call that compares the rooms says
-room : (n out work N : ℕ) (b : Bool) → N ≡ sizeOf n → b ≡ ltb out n || ltb work (2 * N) → (ltb out n || ltb work (encodeRoom n)) ≡ b
-unfolding encodeRoom
-room n out work N b size is = ap (λ (m : ℕ). ltb out n || ltb work (2 * m)) (sym size) ∙ sym is
+room : (n out work stated : ℕ) (b : Bool) → stated ≡ encodeRoom n → b ≡ ltb out n || ltb work stated → (ltb out n || ltb work (encodeRoom n)) ≡ b
+room n out work stated b is short = ap (λ (m : ℕ). ltb out n || ltb work m) (sym is) ∙ sym short
 
 pub encode-checks-spec : {M : Type 1} → statement M
 unfolding encodeChecks
@@ -33,25 +29,24 @@ encode-checks-spec =
     goes-on Shape _ (sym (c .before .before .bad-shape .ensures) ∙ c .before .if1 .left)
     (stops Length _ (ap not (ne-eqb _ _ (c .if2 .taken)))))
     (λ c κs. search needs)
-    (λ c. omega (arith, size-small _ _ (c .size .ensures)))
     (λ c κs. search needs)
     (λ c.
-    let sized = c .before .before in
-    goes-on Shape _ (sym (sized .before .before .before .bad-shape .ensures) ∙ sized .before .before .if1 .left)
-    (goes-on Length _ (ap not (eq-eqb _ _ (sized .before .if2 .left)))
-    (stops Room _ (room _ _ _ _ _ (sized .size .ensures) (c .before .too-short .ensures) ∙ c .if3 .taken))))
+    let measured = c .before .before in
+    goes-on Shape _ (sym (measured .before .before .before .bad-shape .ensures) ∙ measured .before .before .if1 .left)
+    (goes-on Length _ (ap not (eq-eqb _ _ (measured .before .if2 .left)))
+    (stops Room _ (room _ _ _ _ _ (measured .encode-room .ensures) (c .before .too-short .ensures) ∙ c .if3 .taken))))
     (λ c κs. search needs)
     (λ c.
     let roomy = c .before .before in
-    let sized = roomy .before .before in
-    goes-on Shape _ (sym (sized .before .before .before .bad-shape .ensures) ∙ sized .before .before .if1 .left)
-    (goes-on Length _ (ap not (eq-eqb _ _ (sized .before .if2 .left)))
-    (goes-on Room _ (room _ _ _ _ _ (sized .size .ensures) (roomy .before .too-short .ensures) ∙ roomy .if3 .left)
+    let measured = roomy .before .before in
+    goes-on Shape _ (sym (measured .before .before .before .bad-shape .ensures) ∙ measured .before .before .if1 .left)
+    (goes-on Length _ (ap not (eq-eqb _ _ (measured .before .if2 .left)))
+    (goes-on Room _ (room _ _ _ _ _ (measured .encode-room .ensures) (roomy .before .too-short .ensures) ∙ roomy .if3 .left)
     (above-found _ _ (c .before .first-above .ensures) (c .if4 .taken)))))
     (λ c.
     let roomy = c .before .before in
-    let sized = roomy .before .before in
-    goes-on Shape _ (sym (sized .before .before .before .bad-shape .ensures) ∙ sized .before .before .if1 .left)
-    (goes-on Length _ (ap not (eq-eqb _ _ (sized .before .if2 .left)))
-    (goes-on Room _ (room _ _ _ _ _ (sized .size .ensures) (roomy .before .too-short .ensures) ∙ roomy .if3 .left)
+    let measured = roomy .before .before in
+    goes-on Shape _ (sym (measured .before .before .before .bad-shape .ensures) ∙ measured .before .before .if1 .left)
+    (goes-on Length _ (ap not (eq-eqb _ _ (measured .before .if2 .left)))
+    (goes-on Room _ (room _ _ _ _ _ (measured .encode-room .ensures) (roomy .before .too-short .ensures) ∙ roomy .if3 .left)
     (above-none _ _ (c .before .first-above .ensures) (c .if4 .left))))))

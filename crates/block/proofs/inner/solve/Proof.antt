@@ -3,7 +3,7 @@
 use native.Mathlib.Omega.{arith}
 use borrow.Author.Needs.{needs}
 use Rattle.block.specs.Held.{held}
-use Rattle.block.proofs.Recovering.{cells-enough, lent-length, front-inside, solved}
+use Rattle.block.proofs.Recovering.{cells-enough, part-length, front-inside, solved}
 use Rattle.block.proofs.inner.solve.Statement.{statement}
 use Rattle.block.proofs.inner.solve.Tie as tie
 
@@ -17,7 +17,7 @@ solve-spec =
     (λ c. search needs)
     (λ c. search needs)
     (λ c. let start = c .before .before .before in omega (arith, cells-enough (start .args .k) (start .args .n) _ (start .pre .0) (start .args .cells .now) (start .pre .1)))
-    (λ c κs. let start = c .before .before .before .before in (start .pre .0, lent-length (start .args .k) (start .args .n) _ (start .pre .0) (start .args .cells .now) (start .pre .1)))
+    (λ c κs. let start = c .before .before .before .before in (start .pre .0, part-length (start .args .k) (start .args .n) _ (start .pre .0) (start .args .cells .now) (start .pre .1)))
     (λ c. search needs)
     (λ c. search needs)
     (λ c.

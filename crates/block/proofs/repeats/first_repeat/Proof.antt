@@ -11,7 +11,7 @@ use Rattle.block.proofs.repeats.first_repeat.Statement.{statement}
 use Rattle.block.proofs.repeats.first_repeat.Tie as tie
 
 abbrev Inv-loop : tie.InvT-loop
-Inv-loop positions map₀ i₀ map i = (length map ≡ 128) × Passed positions map i
+Inv-loop positions map₀ i₀ map i = (length map ≡ longest / 32) × Passed positions map i
 
 abbrev μ-loop : tie.MeasureT-loop
 μ-loop positions map₀ i₀ map i = length positions - i
@@ -23,12 +23,13 @@ unfolding longest
 cell c = omega (arith, c .before .before .before .pre (c .before .loop .i) (c .loop-test .taken))
 
 pub first-repeat-spec : {M : Type 1} → statement M
+unfolding longest
 first-repeat-spec =
     tie.close
     (tie.spec
     Inv-loop
     μ-loop
-    (λ c. (search needs, passed-none _ 128 _ (search needs)))
+    (λ c. (search needs, passed-none _ (longest / 32) _ (search needs)))
     (λ c. search needs)
     (λ c. search needs)
     (λ c. omega (arith, c .shared-slice-known2 .given (c .before .before .loop .i)))

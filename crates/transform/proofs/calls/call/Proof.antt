@@ -1,16 +1,16 @@
 -- `transform::calls::call` meets its contract: what the checks refuse leaves all as it was; else the list is worked on in place and the working
 -- space cleared.
 -- Assumes nothing.
-use mathlib.Core.Path.{ap₂, _∙_}
+use mathlib.Core.Path.{refl, ap, ap₂, _∙_}
 use mathlib.Core.List.{[]}
 use Prim.Native.Nat.{ℕ, _-_}
 use native.Mathlib.Omega.{arith}
 use borrow.Author.Needs.{needs}
-use lib.ListN.{length}
+use lib.ListN.{length, replicate}
 use lib.Seq.{length-front}
 use Rattle.field.specs.Leaves.{left}
 use Rattle.field.specs.Refusals.{result}
-use Rattle.field.proofs.Leaves.{told-done, told-refused, leaves-done, leaves-refused, zeroed-part}
+use Rattle.field.proofs.Leaves.{told-done, told-refused, leaves-done, leaves-refused, lent-length, zeroed-part}
 use Rattle.transform.proofs.Judged.{judged-good}
 use Rattle.transform.proofs.calls.call.Statement.{statement}
 use Rattle.transform.proofs.calls.call.Tie as tie
@@ -43,8 +43,10 @@ call-spec =
     let judged = told .before .before in
     let start = judged .before .before .before .before in
     let good = told-done _ _ (judged .judge .ensures) (told .enum-told .given .1) in
+    let enough = judged-good _ _ good .enough in
     ap₂ (left (result [])) (worked .one-of .ensures)
-    (zeroed-part (length (start .args .list .now)) _ (start .args .work .now) (judged-good _ _ good .enough) (cleared .clear .ensures))
+    (zeroed-part (length (start .args .list .now)) (length (start .args .list .now)) (start .args .work .now) refl enough _
+    (cleared .clear .ensures ∙ ap (λ (m : ℕ). replicate m 0) (lent-length (length (start .args .list .now)) (length (start .args .list .now)) (start .args .work .now) refl enough)))
     ∙ leaves-done _ _ _ _ good)
     (λ c. search needs)
     (λ c.

@@ -1,0 +1,16 @@
+-- `block::rooms::decode_room` meets its contract: 4N, which fits as N does.
+-- Assumes nothing.
+use mathlib.Core.Path.{ap}
+use Prim.Native.Nat.{_*_}
+use native.Mathlib.Omega.{arith}
+use borrow.Author.Needs.{needs}
+use Rattle.field.proofs.Size.{size-small}
+use Rattle.block.specs.Rooms.{decodeRoom}
+use Rattle.block.proofs.rooms.decode_room.Statement.{statement}
+use Rattle.block.proofs.rooms.decode_room.Tie as tie
+
+pub decode-room-spec : {M : Type 1} → statement M
+unfolding decodeRoom
+decode-room-spec =
+    tie.close
+    (tie.spec (λ c κs. search needs) (λ c. omega (arith, size-small _ _ (c .size .ensures))) (λ c. ap (4 *_) (c .size .ensures)))

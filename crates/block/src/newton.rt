@@ -1,4 +1,5 @@
-// The polynomial through the first k held symbols, by Newton's interpolation, in 2k + 1 cells: F's k coefficients, then the k + 1 of L.
+// The polynomial through the first k held symbols, by Newton's interpolation, in 2k + 1 cells: F's k coefficients, then the k + 1 of L. No entry
+// point and for this crate alone: its caller has made the checks.
 use field::inner::difference;
 use field::inner::inverse;
 use field::inner::point;

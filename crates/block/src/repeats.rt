@@ -1,4 +1,5 @@
-// REPEAT: whether a position stands earlier in the list, found with one bit for each position and one pass over the list.
+// REPEAT: whether a position stands earlier in the list, found with one bit for each position and one pass over the list. No entry point and
+// for this crate alone: its caller has made the check before it, POSITION.
 use field::inner::LONGEST;
 ghost use mathlib.Core.Path.{_≡_};
 ghost use mathlib.Core.Bool.{false};

@@ -25,11 +25,9 @@ use Rattle.block.proofs.Points.{position-one}
 abbrev pub Found : ℕ → ℕ → List ℕ → List ℕ → List ℕ → ℕ → Type 0
 Found k n positions values cells t = Built k t (λ j. pointOf (sizeOf n) (getD positions j 0)) (λ j. getD values j 0) cells
 
-pub found-none : (k n : ℕ) (positions values cells cleared : List ℕ) → length cells ≡ 2 * k + 1 → cleared ≡ replicate (length cells) 0
-    → Found k n positions values (set cleared k 1) 0
-found-none k n positions values cells cleared long is =
-    subst (λ (s : List ℕ). Found k n positions values s 0)
-    (ap (λ (s : List ℕ). set s k 1) (sym (is ∙ ap (λ (m : ℕ). replicate m 0) long))) (built-none k _ _)
+pub found-none : (k n : ℕ) (positions values cells : List ℕ) → cells ≡ set (replicate (2 * k + 1) 0) k 1 → Found k n positions values cells 0
+found-none k n positions values cells is =
+    subst (λ (s : List ℕ). Found k n positions values s 0) (sym is) (built-none k _ _)
 
 module _ (k n : ℕ) (positions values : List ℕ) (ready : Ready k n (held positions values)) where
   pub found-more : (cells after : List ℕ) (t N p x : ℕ) → t < k → N ≡ sizeOf n → p ≡ getD positions t 0 → x ≡ pointOf N p

@@ -3,6 +3,7 @@ pub mod Points
 pub mod Decoding
 pub mod Interpolating
 pub mod Finding
+pub mod HeldWithin
 pub mod Recovering
 pub mod Spreading
 pub mod Bitmap

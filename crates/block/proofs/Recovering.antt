@@ -27,7 +27,7 @@ use Rattle.block.specs.Rooms.{decodeRoom}
 use Rattle.block.proofs.Meeting.{message-is}
 
 -- "at least" is "not below"
-turned : {A : Type 0} (m w : ℕ) (x y : A) → cond (ltb w m) y x ≡ cond (leb m w) x y
+pub turned : {A : Type 0} (m w : ℕ) (x y : A) → cond (ltb w m) y x ≡ cond (leb m w) x y
 turned m w x y =
     elim (decLe m w) [
       | yes le ↦ rw (le-ltb w m le, le-leb m w le)

@@ -13,5 +13,6 @@ pub mod Checks
 pub mod Calls
 pub mod Codable
 pub mod Ready
+pub mod Within
 pub mod Altered
 pub mod Theorems

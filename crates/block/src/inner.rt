@@ -1,5 +1,6 @@
 // No entry points: the work of encode and decode on input that the checks have passed, for the entry points here and for the crates above.
 use crate::newton::build;
+pub use crate::within::solve_within;
 use field::Outcome;
 use field::Refusal;
 use field::inner::point;

@@ -5,6 +5,7 @@ pub mod inner;
 mod newton;
 mod repeats;
 mod rooms;
+mod within;
 
 pub use calls::decode;
 pub use calls::encode;

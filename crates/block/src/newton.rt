@@ -12,7 +12,7 @@ use transform::inner::clear;
 ghost use mathlib.Core.Path.{_≡_};
 ghost use mathlib.Core.List.{_++_};
 ghost use Prim.Native.Nat.{_+_, _-_, _*_, _<_};
-ghost use lib.ListN.{length, take, drop};
+ghost use lib.ListN.{length, take, drop, set, replicate};
 ghost use Rattle.field.specs.Symbol.{Symbols};
 ghost use Rattle.poly.specs.Raised.{raised};
 ghost use Rattle.block.specs.Decoding.{candidate};
@@ -52,7 +52,7 @@ fn raise(cells: &mut [u32], x: u32)
 }
 
 // One point more: c = (y - F(x)) / L(x), F + c · L in place of F, (X - x) · L in place of L.
-fn add_point(k: usize, x: u32, y: u32, cells: &mut [u32])
+pub fn add_point(k: usize, x: u32, y: u32, cells: &mut [u32])
     requires { ⌜ (length (now cells) ≡ 2 * k + 1) × Symbols (now cells) × (y < 65537) ⌝ }
     ensures { λ _. ⌜ now (cells .exit) ≡ withPoint k x y (now (cells .entry)) ⌝ }
 {
@@ -63,14 +63,22 @@ fn add_point(k: usize, x: u32, y: u32, cells: &mut [u32])
     raise(&mut cells[k..], x);
 }
 
-// F through the first k symbols: F = 0 and L = 1 before the first point, then one point more at a time.
+// Before the first point: F = 0 and L = 1.
+pub fn start(k: usize, cells: &mut [u32])
+    requires { ⌜ length (now cells) ≡ 2 * k + 1 ⌝ }
+    ensures { λ _. ⌜ now (cells .exit) ≡ set (replicate (2 * k + 1) 0) k 1 ⌝ }
+{
+    clear(cells);
+    cells[k] = 1;
+}
+
+// F through the first k symbols, one point more at a time.
 pub fn build(k: usize, n: usize, positions: &[u32], values: &[u32], cells: &mut [u32])
     requires { ⌜ Ready k n (held (now positions) (now values)) × (length (now cells) ≡ 2 * k + 1) ⌝ }
     ensures { λ _. ⌜ messageOf (take k (now (cells .exit))) ≡ candidate k n (held (now (positions .entry)) (now (values .entry))) ⌝ }
 {
     let size = size(n);
-    clear(cells);
-    cells[k] = 1;
+    start(k, cells);
     let mut j = 0;
     while j < k {
         let x = point(position(positions[j]), size);

@@ -24,13 +24,10 @@ build-spec =
     Inv-loop
     μ-loop
     (λ c κs. search needs)
-    (λ c κs. search needs)
-    (λ c. search needs)
-    (λ c. let cleared = c .before .before in omega (arith, cleared .clear .kept .0, cleared .before .before .before .before .before .before .pre .1))
+    (λ c κs. c .before .before .before .before .before .pre .1)
     (λ c.
-    let cleared = c .before .before in
-    let start = cleared .before .before .before .before .before .before in
-    (search needs, found-none (start .args .k) (start .args .n) (start .args .positions .now) (start .args .values .now) (start .args .cells .now) _ (start .pre .1) (cleared .clear .ensures)))
+    let start = c .before .before .before .before .before .before .before .before in
+    (search needs, found-none (start .args .k) (start .args .n) (start .args .positions .now) (start .args .values .now) _ (c .before .before .start .ensures)))
     (λ c. search needs)
     (λ c. omega (arith, c .before .before .before .before .before .before .before .before .before .before .before .pre .0 .enough))
     (λ c κs. search needs)

@@ -7,9 +7,8 @@ use field::Refusal;
 use field::inner::bad_shape;
 use field::inner::first_above;
 use field::inner::position;
+use field::inner::too_short;
 ghost use mathlib.Core.Path.{_≡_};
-ghost use mathlib.Core.Bool.{_||_};
-ghost use lib.Dec.{ltb};
 ghost use Rattle.field.specs.Refusals.{toldOutcome};
 ghost use Rattle.block.specs.Checks.{encodeChecks, decodeChecks};
 ghost use Rattle.block.specs.Positions.{firstOutside};
@@ -27,16 +26,6 @@ fn first_outside(n: usize, positions: &[u32]) -> usize
         i += 1;
     }
     i
-}
-
-// Whether the output or the working space is shorter than stated.
-fn too_short(out: usize, needed: usize, work: usize, room: usize) -> bool
-    ensures { λ r. ⌜ r ≡ ltb out needed || ltb work room ⌝ }
-{
-    if out < needed {
-        return true;
-    }
-    work < room
 }
 
 // out and work are the lengths of the output and of the working space.

@@ -3,7 +3,9 @@
 use crate::points::Point;
 use crate::points::Position;
 ghost use mathlib.Core.Path.{_≡_};
+ghost use mathlib.Core.Bool.{_||_};
 ghost use Prim.Native.Nat.{_<_};
+ghost use lib.Dec.{ltb};
 ghost use Rattle.field.specs.Field.{sum, difference, product, power, inverse};
 ghost use Rattle.field.specs.Points.{pointOf};
 ghost use Rattle.field.specs.Roots.{root};
@@ -140,6 +142,16 @@ pub fn bad_shape(k: usize, n: usize) -> bool
         return true;
     }
     LONGEST < n
+}
+
+// Whether the output or the working space is shorter than stated.
+pub fn too_short(out: usize, needed: usize, work: usize, room: usize) -> bool
+    ensures { λ r. ⌜ r ≡ ltb out needed || ltb work room ⌝ }
+{
+    if out < needed {
+        return true;
+    }
+    work < room
 }
 
 // The index of the first value that is no symbol, the list's length where all are.

@@ -1,0 +1,14 @@
+pub mod Putting
+pub mod Searching
+pub mod Ordering
+pub mod Entries
+pub mod Passing
+pub mod BytesLaws
+pub mod PutLaws
+pub mod RisingLaws
+pub mod Storing
+pub mod Holding
+pub mod Accepting
+pub mod Accepted
+pub mod Settling
+pub mod Theorems

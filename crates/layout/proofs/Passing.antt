@@ -1,0 +1,160 @@
+-- What the tests of a bundle's layout let through: bytes that they pass have a header of good shape, a table that lies inside, good entries in
+-- order, and bodies one behind the other up to the end.
+-- Assumes nothing.
+use mathlib.Core.Path.{_≡_}
+use mathlib.Core.Bool.{true, false, not}
+use mathlib.Core.List.{List, []}
+use Prim.Native.Nat.{ℕ, zero, suc, _+_, _<_, _≤_}
+use native.Mathlib.Nat.{le-trans}
+use native.Mathlib.Omega.{arith}
+use borrow.Author.Tests.{ltb-false, leb-true, eqb-true, not-false}
+use lib.Dec.{ltb, leb}
+use lib.ListN.{length, drop}
+use Rattle.field.specs.First.{first}
+use Rattle.field.specs.Refusals.{result}
+use Rattle.field.specs.Shape.{longest, badShape}
+use Rattle.field.specs.declared.refusal.Refusal.the-variants.{Shape, Form}
+use Rattle.field.proofs.Checks.{passed, or-false}
+use Rattle.field.proofs.Shape.{shape-good}
+use Rattle.layout.specs.Blocks.{blocksOf, longestFile, mostBlocks, badBundleShape}
+use Rattle.layout.specs.Fields.{kIn, nIn, lengthIn, heldIn, lastIn, blocksIn, entryAt, positionIn, countIn, offsetIn}
+use Rattle.layout.specs.Layout.{badFront, startOf, badEntry, restGood, layoutChecks}
+use Rattle.layout.specs.Mark.{mark, startsWith}
+use Rattle.layout.specs.Rising.{least, rises}
+use Rattle.layout.specs.Shadows.{headerSize, entrySize, firstBody}
+use Rattle.layout.specs.Storage.{bodySize, listAt, bodyGood}
+use Rattle.layout.proofs.Entries.{and-true, body-told, body-inside, entry-inside, entry-told}
+use Rattle.layout.proofs.Ordering.{rising, few}
+use Rattle.layout.proofs.Searching.{each-passes}
+
+-- The three tests, both ways
+
+pub tests-passed : (s : List ℕ) → layoutChecks s ≡ result []
+    → (badFront s ≡ false) × (badBundleShape (kIn s) (nIn s) (lengthIn s) ≡ false) × (restGood s ≡ true)
+unfolding layoutChecks
+tests-passed s e =
+    let front = passed (badFront s) Form _ [] e in
+    let shape = passed (badBundleShape (kIn s) (nIn s) (lengthIn s)) Shape _ [] (front .1) in
+    let rest = passed (not (restGood s)) Form (result []) [] (shape .1) in
+    (front .0, shape .0, not-false (restGood s) (rest .0))
+
+pub tests-pass : (s : List ℕ) → badFront s ≡ false → badBundleShape (kIn s) (nIn s) (lengthIn s) ≡ false → restGood s ≡ true
+    → layoutChecks s ≡ result []
+unfolding layoutChecks
+tests-pass s front shape rest = simp (front, shape, rest)
+
+-- What each tells
+
+pub front-told : (s : List ℕ) → badFront s ≡ false → (headerSize ≤ length s) × (startsWith mark s ≡ true) × (lastIn s ≡ 0)
+unfolding badFront
+front-told s e =
+    let short = or-false (ltb (length s) headerSize) _ e in
+    let marked = or-false (not (startsWith mark s)) _ (short .1) in (
+      ltb-false (length s) headerSize (short .0),
+      not-false (startsWith mark s) (marked .0),
+      eqb-true (lastIn s) 0 (not-false _ (marked .1)),
+    )
+
+pub bundle-shape-told : (k n L : ℕ) → badBundleShape k n L ≡ false
+    → (badShape k n ≡ false) × (L ≤ longestFile) × (blocksOf k L ≤ mostBlocks)
+unfolding badBundleShape
+bundle-shape-told k n L e =
+    let shape = or-false (badShape k n) _ e in
+    let limits = or-false (ltb longestFile L) (ltb mostBlocks (blocksOf k L)) (shape .1) in
+    (shape .0, ltb-false longestFile L (limits .0), ltb-false mostBlocks (blocksOf k L) (limits .1))
+
+pub rest-told : (s : List ℕ) → restGood s ≡ true
+    → (firstBody (heldIn s) ≤ length s) × ((t : ℕ) → t < heldIn s → badEntry s t ≡ false) × (startOf s (heldIn s) ≡ length s)
+unfolding restGood
+rest-told s e =
+    let there = and-true (leb (firstBody (heldIn s)) (length s)) _ e in
+    let rest = and-true (leb (heldIn s) (first (heldIn s) (badEntry s))) _ (there .1) in (
+      leb-true (firstBody (heldIn s)) (length s) (there .0),
+      each-passes (heldIn s) (badEntry s) (rest .0),
+      eqb-true (startOf s (heldIn s)) (length s) (rest .1),
+    )
+
+-- bodies that are good one after the other lie inside
+starts-inside : (s : List ℕ) → firstBody (heldIn s) ≤ length s → ((t : ℕ) → t < heldIn s → badEntry s t ≡ false) → (t : ℕ)
+    → t ≤ heldIn s → startOf s t ≤ length s
+unfolding startOf
+starts-inside s h fine zero l = h
+starts-inside s h fine (suc t) l =
+    body-inside (blocksIn s) (countIn s t) (startOf s t) s (starts-inside s h fine t (omega arith)) (entry-told s t (fine t l) .3)
+
+-- What bytes that pass are
+
+module _ (s : List ℕ) (good : layoutChecks s ≡ result []) where
+  pub header-inside : headerSize ≤ length s
+  header-inside = front-told s (tests-passed s good .0) .0
+
+  pub begins-with-mark : startsWith mark s ≡ true
+  begins-with-mark = front-told s (tests-passed s good .0) .1
+
+  pub ends-header : lastIn s ≡ 0
+  ends-header = front-told s (tests-passed s good .0) .2
+
+  pub shape-passed : badShape (kIn s) (nIn s) ≡ false
+  shape-passed = bundle-shape-told (kIn s) (nIn s) (lengthIn s) (tests-passed s good .1) .0
+
+  pub length-limited : lengthIn s ≤ longestFile
+  length-limited = bundle-shape-told (kIn s) (nIn s) (lengthIn s) (tests-passed s good .1) .1
+
+  pub blocks-limited : blocksIn s ≤ mostBlocks
+  unfolding blocksIn
+  blocks-limited = bundle-shape-told (kIn s) (nIn s) (lengthIn s) (tests-passed s good .1) .2
+
+  pub k-some : 0 < kIn s
+  k-some = shape-good (kIn s) (nIn s) shape-passed .0
+
+  pub k-few : kIn s ≤ nIn s
+  k-few = shape-good (kIn s) (nIn s) shape-passed .1
+
+  pub n-limited : nIn s ≤ longest
+  n-limited = shape-good (kIn s) (nIn s) shape-passed .2
+
+  pub k-limited : kIn s ≤ longest
+  k-limited = le-trans k-few n-limited
+
+  pub table-inside : firstBody (heldIn s) ≤ length s
+  table-inside = rest-told s (tests-passed s good .2) .0
+
+  pub bodies-end : startOf s (heldIn s) ≡ length s
+  bodies-end = rest-told s (tests-passed s good .2) .2
+
+  pub start-inside : (t : ℕ) → t ≤ heldIn s → startOf s t ≤ length s
+  start-inside = starts-inside s table-inside (rest-told s (tests-passed s good .2) .1)
+
+  module _ (t : ℕ) (less : t < heldIn s) where
+    pub entry-passed : badEntry s t ≡ false
+    entry-passed = rest-told s (tests-passed s good .2) .1 t less
+
+    pub entry-there : entryAt t + entrySize ≤ length s
+    entry-there = entry-inside (heldIn s) t s less table-inside
+
+    pub position-rises : least (positionIn s) t ≤ positionIn s t
+    position-rises = entry-told s t entry-passed .0
+
+    pub position-below : positionIn s t < nIn s
+    position-below = entry-told s t entry-passed .1
+
+    pub offset-is-start : offsetIn s t ≡ startOf s t
+    offset-is-start = entry-told s t entry-passed .2
+
+    pub body-passed : bodyGood (blocksIn s) (countIn s t) (drop (startOf s t) s) ≡ true
+    body-passed = entry-told s t entry-passed .3
+
+    pub body-there : startOf s t + bodySize (blocksIn s) (countIn s t) ≤ length s
+    body-there = body-inside (blocksIn s) (countIn s t) (startOf s t) s (start-inside t (omega arith)) body-passed
+
+    pub offset-inside : offsetIn s t ≤ length s
+    offset-inside = omega (arith, offset-is-start, start-inside t (omega arith))
+
+    pub list-passed : rises (blocksIn s) (countIn s t) (listAt (drop (startOf s t) s)) ≡ true
+    list-passed = body-told (blocksIn s) (countIn s t) (drop (startOf s t) s) body-passed .1
+
+  pub position-after : (i j : ℕ) → i < j → j < heldIn s → positionIn s i < positionIn s j
+  position-after = rising (positionIn s) (heldIn s) position-rises
+
+  pub held-few : heldIn s ≤ nIn s
+  held-few = few (positionIn s) (heldIn s) (nIn s) position-rises position-below

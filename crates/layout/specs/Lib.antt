@@ -1,0 +1,11 @@
+pub mod Bytes
+pub mod Blocks
+pub mod Mark
+pub mod Rising
+pub mod Storage
+pub mod Shadows
+pub mod Fields
+pub mod Layout
+pub mod Facts
+pub mod Held
+pub mod Theorems

@@ -1,0 +1,61 @@
+-- What is proved of the layout, as statements: proofs/Theorems.antt proves each under the same name in small letters.
+use mathlib.Core.Path.{_≡_}
+use mathlib.Core.Bool.{true}
+use mathlib.Core.List.{List, [], _++_}
+use Prim.Native.Nat.{ℕ, _<_, _≤_}
+use lib.ListN.{length}
+use Rattle.field.specs.Refusals.{Answer, result}
+use Rattle.layout.specs.Blocks.{mostBlocks}
+use Rattle.layout.specs.Bytes.{Bytes}
+use Rattle.layout.specs.Facts.{toldFacts, toldEntry, factsAnswer, entryAnswer}
+use Rattle.layout.specs.Fields.{kIn, nIn, lengthIn}
+use Rattle.layout.specs.Held.{shadowsIn, IsBundle}
+use Rattle.layout.specs.Layout.{layoutChecks}
+use Rattle.layout.specs.Shadows.{Shadow}
+use Rattle.layout.specs.Storage.{countOf, bodyOf, bodySize, bodyGood, symbolIn}
+use Rattle.layout.specs.declared.facts.EntryAnswer.{EntryAnswer}
+use Rattle.layout.specs.declared.facts.FactsAnswer.{FactsAnswer}
+
+-- The storage: a body stores its symbols, whatever stands behind it
+
+pub record Stores (B : ℕ) (e : ℕ → ℕ) (behind : List ℕ) : Type 0 where
+  pub long : length (bodyOf B e) ≡ bodySize B (countOf B e)
+  pub bytes : Bytes (bodyOf B e)
+  pub good : bodyGood B (countOf B e) (bodyOf B e ++ behind) ≡ true
+  pub symbols : (b : ℕ) → b < B → symbolIn (countOf B e) (bodyOf B e ++ behind) b ≡ e b
+
+abbrev pub BodyStores : Type 0
+BodyStores =
+    (B : ℕ) (e : ℕ → ℕ) (behind : List ℕ) → B ≤ mostBlocks → ((b : ℕ) → b < B → e b < 65537) → Stores B e behind
+
+-- what is read of bytes is a symbol
+abbrev pub SymbolsRead : Type 0
+SymbolsRead = (c b : ℕ) (s : List ℕ) → Bytes s → symbolIn c s b < 65537
+
+-- The container: what the layout's tests let through is exactly the bundles
+
+-- every bundle passes, and is read as what it was made of
+abbrev pub BundleAccepted : Type 0
+BundleAccepted =
+    (k n L : ℕ) (hs : List Shadow) (s : List ℕ) → IsBundle k n L hs s
+    → (layoutChecks s ≡ result []) × (kIn s ≡ k) × (nIn s ≡ n) × (lengthIn s ≡ L) × (shadowsIn s ≡ hs)
+
+-- and bytes that pass are the bundle of what is read
+abbrev pub AcceptedBundle : Type 0
+AcceptedBundle =
+    (s : List ℕ) → Bytes s → layoutChecks s ≡ result [] → IsBundle (kIn s) (nIn s) (lengthIn s) (shadowsIn s) s
+
+-- bytes are a bundle in one way only
+abbrev pub OneReading : Type 0
+OneReading =
+    (k n L k' n' L' : ℕ) (hs hs' : List Shadow) (s : List ℕ) → IsBundle k n L hs s → IsBundle k' n' L' hs' s
+    → (k ≡ k') × (n ≡ n') × (L ≡ L') × (hs ≡ hs')
+
+-- Two answers of a call are equal
+
+abbrev pub FactsSettled : Type 0
+FactsSettled = (s : List ℕ) (a b : FactsAnswer) → toldFacts a ≡ factsAnswer s → toldFacts b ≡ factsAnswer s → a ≡ b
+
+abbrev pub EntrySettled : Type 0
+EntrySettled =
+    (s : List ℕ) (t : ℕ) (a b : EntryAnswer) → toldEntry a ≡ entryAnswer s t → toldEntry b ≡ entryAnswer s t → a ≡ b

@@ -27,7 +27,7 @@ pub data Before : Answer → Type 0 where
   passing : Before (result [])
   other : {number place : ℕ} → eqb number 8 ≡ false → Before (refusal number place)
 
-before-if : (bad : Bool) (x : Refusal) {later : Answer} → eqb (numberOf x) 8 ≡ false → Before later → Before (refuseIf bad x later)
+pub before-if : (bad : Bool) (x : Refusal) {later : Answer} → eqb (numberOf x) 8 ≡ false → Before later → Before (refuseIf bad x later)
 before-if true x here after = other here
 before-if false x here after = after
 

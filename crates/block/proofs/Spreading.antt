@@ -63,7 +63,7 @@ module _ (n : ℕ) (message : List ℕ) (good : Codable n message) where
   k-fits = le-trans (shape-good _ n (good .shape) .1) n-fits
 
   -- the coefficients
-  full : List ℕ
+  unfoldable pub full : List ℕ
   full = message ++ replicate (sizeOf n - length message) 0
 
   full-length : length full ≡ sizeOf n
@@ -72,7 +72,7 @@ module _ (n : ℕ) (message : List ℕ) (good : Codable n message) where
       length-append message (replicate (sizeOf n - length message) 0)
       ∙ omega (arith, k-fits, length-replicate {A = ℕ} (sizeOf n - length message) 0)
 
-  full-ready : Ready full
+  pub full-ready : Ready full
   unfolding full
   full-ready =
       ready-of (levelOf n) (level-le n) full (full-length ∙ size-power n)
@@ -87,7 +87,7 @@ module _ (n : ℕ) (message : List ℕ) (good : Codable n message) where
         ap (x ^ length message *_) (value-zeros (sizeOf n - length message) x),
       )
 
-  kept-front : take n (transformOf full) ≡ codeWord n message
+  pub kept-front : take n (transformOf full) ≡ codeWord n message
   unfolding codeWord symbolOf
   kept-front =
       ext-getD 0 (take n (transformOf full)) (codeWord n message) (long ∙ sym (tab-length n _))

@@ -27,7 +27,7 @@ use Rattle.layout.proofs.Holding.{limits, shadowAt, position-at, stored
 -- The header
 
 module _ (k n L m : ℕ) (rest : List ℕ) where
-  header-length : length (header k n L m) ≡ headerSize
+  pub header-length : length (header k n L m) ≡ headerSize
   unfolding header mark two four headerSize
   header-length = refl
 
@@ -123,7 +123,7 @@ module _ (k n L : ℕ) (hs : List Shadow) (s : List ℕ) (is : IsBundle k n L hs
   unfolding blocksIn
   read-blocks = ap₂ blocksOf read-k read-L
 
-  read-entry : (t : ℕ) → t < length hs → Alike 8 s (entryAt t) (entry (shadowAt hs t) (offsetOf (firstBody (length hs)) hs t)) 0
+  pub read-entry : (t : ℕ) → t < length hs → Alike 8 s (entryAt t) (entry (shadowAt hs t) (offsetOf (firstBody (length hs)) hs t)) 0
   unfolding bundleOf entryAt
   read-entry t h =
       λ d l. ap (λ (l : List ℕ). getD l (entryAt t + d) 0) (is .written)
@@ -167,7 +167,7 @@ module _ (k n L : ℕ) (hs : List Shadow) (s : List ℕ) (is : IsBundle k n L hs
   unfolding front bundleOf
   parts = is .written ∙ sym (append-assoc (header k n L (length hs)) (table (firstBody (length hs)) hs) (bodies hs))
 
-  bundle-length : length s ≡ firstBody (length hs) + length (bodies hs)
+  pub bundle-length : length s ≡ firstBody (length hs) + length (bodies hs)
   bundle-length = ap length parts ∙ rw length-append (omega (arith, front-length))
 
   pub read-body : (t : ℕ) → t < length hs → drop (startOf s t) s ≡ shadowAt hs t .body ++ bodies (drop (suc t) hs)

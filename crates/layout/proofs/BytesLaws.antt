@@ -87,6 +87,16 @@ in-bytes-at (x ∷ xs) q (suc j) h low =
     (two-alike _ (2 * suc j) _ (2 * j) (alike-past 2 (two x) (inBytes xs ++ q) (2 * j) (2 * suc j) (omega (arith, two-length x)))
     ∙ in-bytes-at xs q j (le-of-suc-le-suc h) low)
 
+pub in-bytes-there : (xs q : List ℕ) (j : ℕ) → j < length xs → Alike 2 (inBytes xs ++ q) (2 * j) (two (getD xs j 0)) 0
+unfolding inBytes
+in-bytes-there [] q j h = absurd (not-suc-le-zero h)
+in-bytes-there (x ∷ xs) q zero h =
+    rw (append-assoc (two x) (inBytes xs) q) (alike-front 2 (two x) (inBytes xs ++ q) 0 (omega (arith, two-length x)))
+in-bytes-there (x ∷ xs) q (suc j) h =
+    rw (append-assoc (two x) (inBytes xs) q)
+    (λ d l. alike-past 2 (two x) (inBytes xs ++ q) (2 * j) (2 * suc j) (omega (arith, two-length x)) d l
+    ∙ in-bytes-there xs q j (le-of-suc-le-suc h) d l)
+
 pub in-bytes-append : (xs ys : List ℕ) → inBytes (xs ++ ys) ≡ inBytes xs ++ inBytes ys
 unfolding inBytes
 in-bytes-append [] ys = refl

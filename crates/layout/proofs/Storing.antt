@@ -96,6 +96,22 @@ overflow-in e (suc B) b h over =
       | no more ↦ let last : b ≡ B = omega arith in rw (← last, eq-eqb (e b) 65536 over) (in-last b (overflows e b))
     ]
 
+-- it stands behind those of the blocks before it
+pub overflow-place : (e : ℕ → ℕ) (B b : ℕ) → b < B → e b ≡ 65536 → (countOf b e < countOf B e) × (getD (overflows e B) (countOf b e) 0 ≡ b)
+unfolding countOf overflows
+overflow-place e zero b h over = absurd (not-suc-le-zero h)
+overflow-place e (suc B) b h over =
+    elim (decLt b B) [
+      | yes less ↦
+          let here = overflow-place e B b less over in
+          let next = cond (eqb (e B) 65536) (B ∷ []) [] in
+          (omega (arith, length-append (overflows e B) next, here .0), List·getD-append (overflows e B) next 0 (countOf b e) (here .0) ∙ here .1)
+      | no more ↦
+          let last : b ≡ B = omega arith in
+          rw (← last, eq-eqb (e b) 65536 over)
+          (omega (arith, length-append (overflows e b) (b ∷ [])), getD-at (overflows e b) b [] 0 (length (overflows e b)) refl)
+    ]
+
 -- What is read of a body
 
 pub both : (a b : Bool) → (a && b) ≡ true → (a ≡ true) × (b ≡ true)

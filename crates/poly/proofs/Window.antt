@@ -1,5 +1,5 @@
 -- A list in which n numbers from a place on are written anew and the rest is as it was: what a loop that writes a slice keeps true. One law
--- for a store at the window's end, one for a store before it, and what is read before and past it.
+-- for a store at the window's end, one for a store before it, and what is read before, in and past it.
 -- Assumes nothing.
 use mathlib.Core.Path.{_≡_, sym, ap, _∙_}
 use mathlib.Core.List.{List, _∷_, _++_, append-assoc, append-nil}
@@ -9,7 +9,7 @@ use native.Mathlib.Omega.{arith}
 use lib.ListN.{length, getD, take, drop, set, length-append, length-take, length-drop, take-append-drop, drop-of-length-le, List·getD-append}
 use lib.Seq.{take-at, length-take-le, drop-cons, set-at, set-append-left, take-set-lt, drop-set-lt, getD-append-add, getD-drop, getD-take}
 use Rattle.poly.specs.Tab.{tab}
-use Rattle.poly.proofs.Tab.{tab-length, tab-more}
+use Rattle.poly.proofs.Tab.{tab-length, tab-at, tab-more}
 
 unfoldable pub window : ℕ → ℕ → (ℕ → ℕ) → List ℕ → List ℕ
 window at n f d = take at d ++ (tab n f ++ drop (at + n) d)
@@ -58,6 +58,14 @@ window-past at n i f d h l =
     ∙ getD-append-add (take at d ++ tab n f) (drop (at + n) d) (i - (at + n)) 0
     ∙ getD-drop (at + n) d (i - (at + n)) 0
     ∙ ap (λ (m : ℕ). getD d m 0) {y = i} (omega arith)
+
+pub window-at : (at n i : ℕ) (f : ℕ → ℕ) (d : List ℕ) → i < n → at ≤ length d → getD (window at n f d) (at + i) 0 ≡ f i
+unfolding window
+window-at at n i f d h l =
+    ap (λ (m : ℕ). getD (take at d ++ (tab n f ++ drop (at + n) d)) (m + i) 0) (sym (length-take-le at d l))
+    ∙ getD-append-add (take at d) (tab n f ++ drop (at + n) d) i 0
+    ∙ List·getD-append (tab n f) (drop (at + n) d) 0 i (omega (arith, tab-length n f))
+    ∙ tab-at n f i h
 
 -- a window that reaches to the list's end, and what is taken off a window at its front
 pub window-end : (at n : ℕ) (f : ℕ → ℕ) (d : List ℕ) → length d ≤ at + n → window at n f d ≡ take at d ++ tab n f

@@ -1,0 +1,82 @@
+-- What the reader leaves: of the file's bytes and the stated cells, and then of all that it was lent.
+-- Assumes nothing.
+use mathlib.Core.Path.{_≡_, sym, ap, ap₂, _∙_}
+use mathlib.Core.List.{List, [], _∷_, _++_, append-assoc, append-nil}
+use Prim.Native.Nat.{ℕ, _-_, _≤_}
+use native.Mathlib.Nat.{min-le-left}
+use native.Mathlib.Omega.{arith}
+use lib.ListN.{length, take, drop, replicate, length-take, length-replicate, take-append-drop, drop-of-length-le}
+use lib.Seq.{length-take-le, drop-append-le}
+use Rattle.field.specs.Leaves.{Leaves, left, written, zeroed}
+use Rattle.field.specs.Refusals.{Answer, result, refusal, refused, toldOutcome}
+use Rattle.field.specs.declared.refusal.Outcome.{Outcome}
+use Rattle.field.specs.declared.refusal.Outcome.the-variants.{Done, Refused}
+use Rattle.field.specs.declared.refusal.Refusal.{Refusal}
+use Rattle.field.proofs.Leaves.{lent-length, zeroed-part, zeroed-all}
+use Rattle.layout.specs.Facts.{after}
+use Rattle.layout.specs.Fields.{nIn, lengthIn, blocksIn}
+use Rattle.bundle.specs.Calls.{blocksLeave}
+use Rattle.bundle.specs.Reading.{blocksAnswer, bytesBefore, fileIn}
+use Rattle.bundle.specs.Rooms.{workRoom}
+
+-- all there is is written
+written-all : (vs list : List ℕ) → length list ≤ length vs → written vs list ≡ vs
+written-all vs list le = ap (vs ++_) (drop-of-length-le list {i = length vs} le) ∙ append-nil vs
+
+-- The work: file and cells are what was lent of the output and of the working space, f and c what they hold at the end
+
+module _ (s file cells f c : List ℕ) (long : length file ≡ lengthIn s) (room : length cells ≡ workRoom (nIn s)) (m : ℕ) (same : m ≡ length cells) (cleared : c ≡ replicate m 0) (o : Outcome) (told : after (toldOutcome o) (result (lengthIn s ∷ [])) ≡ blocksAnswer s 0 (blocksIn s)) where
+  zero : c ≡ zeroed (workRoom (nIn s)) cells
+  zero = cleared ∙ ap (λ (z : ℕ). replicate z 0) (same ∙ room) ∙ sym (zeroed-all (workRoom (nIn s)) cells room)
+
+  pub leaves-file : o ≡ Done → (L : ℕ) → L ≡ lengthIn s → length f ≡ length file → (toldOutcome o ≡ result [] → f ≡ fileIn s)
+      → left (result (L ∷ [])) f c ≡ blocksLeave (blocksAnswer s 0 (blocksIn s)) s file cells
+  leaves-file done L is kept file-is =
+      ap₂ (left (result (L ∷ []))) (whole ∙ ap (λ (t : List ℕ). written t file) (file-is (ap toldOutcome done))) zero
+      ∙ ap (λ (z : ℕ). left (result (z ∷ [])) (written (fileIn s) file) (zeroed (workRoom (nIn s)) cells)) is
+      ∙ ap (λ (a : Answer). blocksLeave a s file cells) (ap (λ (p : Outcome). after (toldOutcome p) (result (lengthIn s ∷ []))) (sym done) ∙ told)
+    where
+      whole : f ≡ written f file
+      whole = sym (written-all f file (omega (arith, kept)))
+
+  pub leaves-refusal : (x : Refusal) → o ≡ Refused x → (L : ℕ) → L ≡ length file → f ≡ replicate L 0
+      → left (refused x) f c ≡ blocksLeave (blocksAnswer s 0 (blocksIn s)) s file cells
+  leaves-refusal x bad L is zeros =
+      ap₂ (left (refused x))
+      (zeros ∙ ap (λ (z : ℕ). replicate z 0) (is ∙ long)
+      ∙ sym (written-all (replicate (lengthIn s) 0) file (omega (arith, length-replicate {A = ℕ} (lengthIn s) 0, long)))) zero
+      ∙ ap (λ (a : Answer). blocksLeave a s file cells) (ap (λ (p : Outcome). after (toldOutcome p) (result (lengthIn s ∷ []))) (sym bad) ∙ told)
+
+-- The call: stated parts of the output and of the working space were lent
+
+again-written : (vs out : List ℕ) (L stated : ℕ) → stated ≡ L → L ≤ length out → length vs ≤ L
+    → written vs (take (stated - 0) out) ++ drop (stated - 0) out ≡ written vs out
+again-written vs out L stated is enough fits =
+    append-assoc vs _ _
+    ∙ ap (vs ++_)
+    (sym (drop-append-le (length vs) (take (stated - 0) out) (drop (stated - 0) out) (omega (arith, length-take-le (stated - 0) out (omega arith)))) ∙ ap (drop (length vs)) (take-append-drop (stated - 0) out))
+
+again-zeroed : (stated room : ℕ) (work : List ℕ) → stated ≡ room → room ≤ length work
+    → zeroed room (take (stated - 0) work) ++ drop (stated - 0) work ≡ zeroed room work
+again-zeroed stated room work is enough =
+    zeroed-part stated room work is enough _ (zeroed-all room (take (stated - 0) work) (lent-length stated room work is enough))
+
+-- with what lies behind the stated parts put back
+extended : List ℕ → List ℕ → Leaves → Leaves
+extended rest behind it = left (it .answer) (it .list ++ rest) (it .work ++ behind)
+
+pub blocks-whole : (s : List ℕ) (answer a : Answer) (L room : ℕ) (out work f c : List ℕ) → L ≡ lengthIn s → room ≡ workRoom (nIn s)
+    → lengthIn s ≤ length out → workRoom (nIn s) ≤ length work → left a f c ≡ blocksLeave answer s (take (L - 0) out) (take (room - 0) work)
+    → left a (f ++ drop (L - 0) out) (c ++ drop (room - 0) work) ≡ blocksLeave answer s out work
+unfolding extended fileIn
+blocks-whole s (refusal number place) a L room out work f c first second enough space leaves =
+    ap (extended (drop (L - 0) out) (drop (room - 0) work)) leaves
+    ∙ ap₂ (left (refusal number place))
+    (again-written (replicate (lengthIn s) 0) out (lengthIn s) L first enough (omega (arith, length-replicate {A = ℕ} (lengthIn s) 0)))
+    (again-zeroed room (workRoom (nIn s)) work second space)
+blocks-whole s (result vs) a L room out work f c first second enough space leaves =
+    ap (extended (drop (L - 0) out) (drop (room - 0) work)) leaves
+    ∙ ap₂ (left (result vs))
+    (again-written (take (lengthIn s) (bytesBefore s (blocksIn s))) out (lengthIn s) L first enough
+    (omega (arith, length-take (lengthIn s) (bytesBefore s (blocksIn s)), min-le-left (lengthIn s) (length (bytesBefore s (blocksIn s))))))
+    (again-zeroed room (workRoom (nIn s)) work second space)

@@ -1,0 +1,23 @@
+-- `bundle::rooms::write_room` meets its contract: all fits, since n and B have limits.
+-- Assumes nothing.
+use native.Mathlib.Nat.{mul-le-mul}
+use native.Mathlib.Omega.{arith}
+use borrow.Author.Needs.{needs}
+use Rattle.field.specs.Shape.{longest}
+use Rattle.layout.specs.Blocks.{mostBlocks}
+use Rattle.layout.specs.Shadows.{headerSize, entrySize, firstBody}
+use Rattle.bundle.specs.Rooms.{writeRoom}
+use Rattle.bundle.proofs.rooms.write_room.Statement.{statement}
+use Rattle.bundle.proofs.rooms.write_room.Tie as tie
+
+pub write-room-spec : {M : Type 1} → statement M
+unfolding writeRoom firstBody headerSize entrySize longest mostBlocks
+write-room-spec =
+    tie.close
+    (tie.spec
+    (λ c. search needs)
+    (λ c. search needs)
+    (λ c. omega (arith, mul-le-mul {n₂ = 4096} {m₂ = 65535} (c .pre .0) (c .pre .1)))
+    (λ c. omega (arith, mul-le-mul {n₂ = 4096} {m₂ = 65535} (c .pre .0) (c .pre .1)))
+    (λ c. omega (arith, mul-le-mul {n₂ = 4096} {m₂ = 65535} (c .pre .0) (c .pre .1)))
+    (λ c. search needs))

@@ -1,0 +1,18 @@
+-- The answer of the writer and of the reader, on paper: "The writer returns the bundle's length, the reader L."
+use mathlib.Core.Path.{_≡_}
+use mathlib.Core.List.{List, [], _∷_}
+use Prim.Native.Nat.{ℕ}
+use Rattle.field.specs.Leaves.{Leaves, left}
+use Rattle.field.specs.Refusals.{Answer, result, refused}
+use Rattle.bundle.specs.declared.answer.LengthAnswer.{LengthAnswer}
+use Rattle.bundle.specs.declared.answer.LengthAnswer.the-variants.{Length, Refused}
+
+abbrev pub toldLength : LengthAnswer → Answer
+toldLength (Length number) = result (number ∷ [])
+toldLength (Refused x) = refused x
+
+-- a promise settles what a call leaves: two outcomes that meet it are equal, the answer, every byte and every cell
+abbrev pub Settled : Leaves → Type 0
+Settled it =
+    (r s : LengthAnswer) (l m w v : List ℕ) → left (toldLength r) l w ≡ it → left (toldLength s) m v ≡ it
+    → (r ≡ s) × (l ≡ m) × (w ≡ v)

@@ -1,0 +1,27 @@
+-- The checks of the writer, and those of the reader before the blocks, in document 01's order.
+use mathlib.Core.Bool.{_||_}
+use mathlib.Core.List.{List, []}
+use Prim.Native.Nat.{ℕ}
+use lib.Dec.{ltb}
+use Rattle.field.specs.Refusals.{Answer, result, refuseIf}
+use Rattle.field.specs.declared.refusal.Refusal.the-variants.{Shape, Room, Few}
+use Rattle.layout.specs.Blocks.{blocksOf, badBundleShape}
+use Rattle.layout.specs.Facts.{after}
+use Rattle.layout.specs.Fields.{kIn, nIn, lengthIn, heldIn}
+use Rattle.layout.specs.Layout.{layoutChecks}
+use Rattle.bundle.specs.Rooms.{writeRoom, workRoom}
+
+-- out and work are the lengths of the output and of the working space, L that of the file
+
+unfoldable pub writeChecks : ℕ → ℕ → ℕ → ℕ → ℕ → Answer
+writeChecks k n L out work =
+    refuseIf (badBundleShape k n L) Shape
+    (refuseIf (ltb out (writeRoom n (blocksOf k L)) || ltb work (workRoom n)) Room (result []))
+
+-- ROOM and FEW, once the layout is good
+unfoldable pub roomChecks : List ℕ → ℕ → ℕ → Answer
+roomChecks s out work =
+    refuseIf (ltb out (lengthIn s) || ltb work (workRoom (nIn s))) Room (refuseIf (ltb (heldIn s) (kIn s)) Few (result []))
+
+unfoldable pub readChecks : List ℕ → ℕ → ℕ → Answer
+readChecks s out work = after (layoutChecks s) (roomChecks s out work)

@@ -1,0 +1,11 @@
+pub mod File
+pub mod Writing
+pub mod Rooms
+pub mod Reading
+pub mod Gathering
+pub mod Answers
+pub mod Checks
+pub mod Calls
+pub mod Theorems
+pub mod Worked
+pub mod Useless

@@ -1,0 +1,21 @@
+// Room needed, worked out in one place for the checks and for the work.
+use field::inner::size;
+ghost use mathlib.Core.Path.{_≡_};
+ghost use Prim.Native.Nat.{_≤_};
+ghost use Rattle.field.specs.Shape.{longest};
+ghost use Rattle.layout.specs.Blocks.{mostBlocks};
+ghost use Rattle.bundle.specs.Rooms.{writeRoom, workRoom};
+
+// No entry point: n and B are those of a good shape.
+pub fn write_room(n: usize, blocks: usize) -> usize
+    requires { ⌜ (n ≤ longest) × (blocks ≤ mostBlocks) ⌝ }
+    ensures { λ r. ⌜ r ≡ writeRoom n blocks ⌝ }
+{
+    16 + 8 * n + 4 * (n * blocks)
+}
+
+pub fn work_room(n: usize) -> usize
+    ensures { λ r. ⌜ r ≡ workRoom n ⌝ }
+{
+    8 * size(n)
+}

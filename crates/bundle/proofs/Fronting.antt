@@ -26,10 +26,10 @@ use Rattle.bundle.proofs.Bundling.{bodyAt, body-first, body-next, body-
 use Rattle.bundle.proofs.Onward.{onward-more, put-stands, put-onward}
 
 pub header-puts : (k n L : ℕ) (s : List ℕ)
-    → put (two 0) 14 (put (two n) 12 (put (four L) 8 (put (two n) 6 (put (two k) 4 (put (four 0x464E5442) 0 s))))) ≡ put (header k n L n) 0 s
+    → put (two 0) 14 (put (two n) 12 (put (four L) 8 (put (two n) 6 (put (two k) 4 (put mark 0 s))))) ≡ put (header k n L n) 0 s
 unfolding header mark four two
 header-puts k n L s =
-    let a = four 0x464E5442 in
+    let a = mark in
     let b = a ++ two k in
     let c = b ++ two n in
     let d = c ++ four L in

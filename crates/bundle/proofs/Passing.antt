@@ -24,6 +24,15 @@ unfolding writeChecks
 write-passes k n L out work good enough room =
     simp (good, le-ltb out (writeRoom n (blocksOf k L)) enough, le-ltb work (workRoom n) room)
 
+pub write-passed : (k n L out work : ℕ) → writeChecks k n L out work ≡ result []
+    → (badBundleShape k n L ≡ false) × (writeRoom n (blocksOf k L) ≤ out) × (workRoom n ≤ work)
+unfolding writeChecks
+write-passed k n L out work e =
+    let shape = passed (badBundleShape k n L) Shape _ [] e in
+    let room = passed (ltb out (writeRoom n (blocksOf k L)) || ltb work (workRoom n)) Room (result []) [] (shape .1) in
+    let enough = or-false (ltb out (writeRoom n (blocksOf k L))) (ltb work (workRoom n)) (room .0) in
+    (shape .0, ltb-false out (writeRoom n (blocksOf k L)) (enough .0), ltb-false work (workRoom n) (enough .1))
+
 -- Answers that are a result of nothing, or another refusal than DISAGREE
 
 pub before-disagree : {a : Answer} {b : ℕ} → Before a → a ≡ refused (Disagree b) → ⊥

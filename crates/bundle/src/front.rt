@@ -17,14 +17,23 @@ ghost use Rattle.layout.specs.Shadows.{headerSize, entrySize, header, firstBody
 ghost use Rattle.bundle.specs.File.{fileBundle};
 ghost use Rattle.bundle.specs.Writing.{Counted, Stand, Onward};
 
-// The mark, the four bytes of "FNTB", as one number.
-const MARK: usize = 0x464E5442;
+// At the front of to, which stays as it was behind it.
+fn copy(from: &[u8], to: &mut [u8])
+    requires { ⌜ length (now from) ≤ length (now to) ⌝ }
+    ensures { λ _. ⌜ now (to .exit) ≡ put (now (from .entry)) 0 (now (to .entry)) ⌝ }
+{
+    let mut i = 0;
+    while i < from.len() {
+        to[i] = from[i];
+        i += 1;
+    }
+}
 
 fn write_header(k: usize, n: usize, bytes: usize, out: &mut [u8])
     requires { ⌜ (k < 65536) × (n < 65536) × (bytes < 4294967296) × (headerSize ≤ length (now out)) ⌝ }
     ensures { λ _. ⌜ now (out .exit) ≡ put (header k n bytes n) 0 (now (out .entry)) ⌝ }
 {
-    put_four(out, 0, MARK);
+    copy(b"FNTB", out);
     put_two(out, 4, k);
     put_two(out, 6, n);
     put_four(out, 8, bytes);

@@ -1,6 +1,8 @@
 // Bundles: written from a file, and read back to the file.
 mod answer;
 mod bytes;
+mod calls;
+mod checks;
 mod counts;
 mod front;
 mod reader;
@@ -10,3 +12,5 @@ mod words;
 mod writer;
 
 pub use answer::LengthAnswer;
+pub use calls::read;
+pub use calls::write;

@@ -1,76 +1,121 @@
--- The bundle of a file is a bundle, whatever rising positions it holds; and where the bodies of a whole one lie.
+-- The bundle that holds a file's shadows at rising positions is a bundle, and what it holds; and where the bodies of the whole one lie.
 -- Assumes nothing.
 use mathlib.Core.Path.{_≡_, refl, sym, ap, ap₂, _∙_}
-use mathlib.Core.Bool.{true, false}
+use mathlib.Core.Bool.{false}
 use mathlib.Core.List.{List, [], _∷_, _++_, map, append-nil}
 use Prim.Native.Nat.{ℕ, zero, suc, _+_, _*_, _<_, _≤_, zero-le}
-use native.Mathlib.Nat.{not-suc-le-zero, le-of-suc-le-suc, mod-lt}
+use native.Mathlib.Nat.{mod-lt}
 use native.Mathlib.Decide.{decLt}
 use native.Mathlib.Omega.{arith}
 use lib.Dec.{lit<}
-use lib.ListN.{length, getD, drop, List·getD-append}
+use lib.ListN.{length, getD, drop, length-map, List·getD-append}
 use lib.Seq.{getD-drop}
-use Rattle.poly.proofs.Tab.{tab-length, tab-at}
 use Rattle.block.specs.Code.{symbolOf}
-use Rattle.layout.specs.Blocks.{blocksOf, mostBlocks, badBundleShape}
+use Rattle.layout.specs.Blocks.{blocksOf, badBundleShape}
 use Rattle.layout.specs.Bytes.{two, four}
-use Rattle.layout.specs.Fields.{entryAt, countIn, offsetIn}
-use Rattle.layout.specs.Held.{upTo, positionsOf, Stored, AllStored, IsBundle}
-use Rattle.layout.specs.Rising.{least, rises}
+use Rattle.layout.specs.Fields.{heldIn, entryAt, positionIn, countIn, offsetIn}
+use Rattle.layout.specs.Held.{upTo, positionsOf, Stored, IsBundle}
+use Rattle.layout.specs.Rising.{least}
 use Rattle.layout.specs.Shadows.{Shadow, headerSize, firstBody, header, entry, bodies, bundleOf}
-use Rattle.layout.specs.Storage.{countOf, bodyOf, bodySize, bodyGood}
-use Rattle.layout.proofs.Accepting.{header-length, read-entry, read-count, read-offset, read-start, read-body, bundle-length}
+use Rattle.layout.specs.Storage.{countOf, bodyOf, bodySize}
+use Rattle.layout.proofs.Accepting.{header-length, passes, read-m, read-position, read-count, read-entry, read-offset, read-body, bundle-length}
 use Rattle.layout.proofs.BytesLaws.{Alike, alike-front}
-use Rattle.layout.proofs.Holding.{limits, shadowAt, offsetOf, offset-next, offset-end}
+use Rattle.layout.proofs.Holding.{shadowAt, made-at, made-stored, all-length, all-at, offsetOf, offset-next, offset-end}
+use Rattle.layout.proofs.Passing.{bundle-shape-told, offset-is-start}
 use Rattle.layout.proofs.RisingLaws.{InOrder, in-order-rises, rises-same}
-use Rattle.layout.proofs.Storing.{overflow-count, body-long, body-bytes, body-good}
+use Rattle.layout.proofs.Storing.{overflow-count, body-long}
+use Rattle.layout.proofs.Theorems.{body-stores}
 use Rattle.bundle.specs.File.{symbolAt, shadowOf, bundleAt, fileBundle}
 use Rattle.bundle.specs.Rooms.{writeRoom}
+use Rattle.bundle.specs.Theorems.{Rising}
 
 pub symbol-small : (k n : ℕ) (file : List ℕ) (i b : ℕ) → symbolAt k n file i b < 65537
 unfolding symbolAt symbolOf
 symbol-small k n file i b = mod-lt _ (lit< tt)
 
--- shadows that are given by their positions
+-- The shadows at some positions
 
-module _ (f : ℕ → Shadow) where
-  map-length : (xs : List ℕ) → length (map f xs) ≡ length xs
-  map-length [] = refl
-  map-length (x ∷ xs) = ap suc (map-length xs)
+module _ (k n : ℕ) (file : List ℕ) where
+  positions-are : (positions : List ℕ) → positionsOf (map (shadowOf k n file) positions) ≡ positions
+  unfolding positionsOf shadowOf
+  positions-are [] = refl
+  positions-are (i ∷ positions) = ap (i ∷_) (positions-are positions)
 
-  map-at : (xs : List ℕ) (t : ℕ) → t < length xs → shadowAt (map f xs) t ≡ f (getD xs t 0)
-  map-at [] t h = absurd (not-suc-le-zero h)
-  map-at (x ∷ xs) zero h = refl
-  map-at (x ∷ xs) (suc t) h = map-at xs t (le-of-suc-le-suc h)
+  shadow-stored : badBundleShape k n (length file) ≡ false → (i : ℕ) → Stored (blocksOf k (length file)) (shadowOf k n file i)
+  unfolding shadowOf
+  shadow-stored shape i =
+      let few = bundle-shape-told k n (length file) shape .2 in
+      let stores = body-stores (blocksOf k (length file)) (symbolAt k n file i) [] few (λ b h. symbol-small k n file i b) in
+      record { long = stores .long; good = rw append-nil at (stores .good); bytes = stores .bytes }
 
-  map-stored : (B : ℕ) (xs : List ℕ) → ((i : ℕ) → Stored B (f i)) → AllStored B (map f xs)
-  unfolding AllStored
-  map-stored B [] each = tt
-  map-stored B (x ∷ xs) each = (each x, map-stored B xs each)
+  module _ (positions : List ℕ) (shape : badBundleShape k n (length file) ≡ false) (up : Rising n positions) where
+    abbrev s : List ℕ
+    s = bundleAt k n file positions
 
--- all n of them, and where body i begins
+    abbrev hs : List Shadow
+    hs = map (shadowOf k n file) positions
+
+    pub file-is-bundle : IsBundle k n (length file) hs s
+    unfolding bundleAt
+    file-is-bundle =
+        record {
+          shape = shape;
+          rising = rw (positions-are positions, length-map positions (shadowOf k n file)) up;
+          stored = made-stored (shadowOf k n file) (blocksOf k (length file)) positions (λ t h. shadow-stored shape (getD positions t 0));
+          written = refl;
+        }
+
+    pub held-all : heldIn s ≡ length positions
+    held-all = read-m k n (length file) hs s file-is-bundle ∙ length-map positions (shadowOf k n file)
+
+    module _ (t : ℕ) (h : t < length positions) where
+      there : t < length hs
+      there = omega (arith, length-map positions (shadowOf k n file))
+
+      here : shadowAt hs t ≡ shadowOf k n file (getD positions t 0)
+      here = made-at (shadowOf k n file) positions t h
+
+      pub position-held : positionIn s t ≡ getD positions t 0
+      unfolding shadowOf
+      position-held = read-position k n (length file) hs s file-is-bundle t there ∙ ap (λ (x : Shadow). x .position) here
+
+      pub count-held : countIn s t ≡ countOf (blocksOf k (length file)) (symbolAt k n file (getD positions t 0))
+      unfolding shadowOf
+      count-held = read-count k n (length file) hs s file-is-bundle t there ∙ ap (λ (x : Shadow). x .count) here
+
+      pub body-held : drop (offsetIn s t) s ≡ bodyOf (blocksOf k (length file)) (symbolAt k n file (getD positions t 0)) ++ bodies (drop (suc t) hs)
+      unfolding shadowOf
+      body-held =
+          ap (λ (m : ℕ). drop m s) (offset-is-start s (passes k n (length file) hs s file-is-bundle) t (omega (arith, held-all)))
+          ∙ read-body k n (length file) hs s file-is-bundle t there
+          ∙ ap (λ (x : Shadow). x .body ++ bodies (drop (suc t) hs)) here
+
+-- All n of them
+
+pub all-rise : (n : ℕ) → Rising n (upTo n)
+unfolding least
+all-rise n = rw (all-length n) (rises-same n n (λ t. t) _ (λ t h. sym (all-at n t h)) (in-order-rises n n (λ t. t) each))
+  where
+    each : (t : ℕ) → t < n → InOrder n (λ t. t) t
+    each zero h = (zero-le, h)
+    each (suc t) h = (omega arith, h)
 
 unfoldable pub shadows : ℕ → ℕ → List ℕ → List Shadow
 shadows k n file = map (shadowOf k n file) (upTo n)
 
+-- where body i begins
 unfoldable pub bodyAt : ℕ → ℕ → List ℕ → ℕ → ℕ
 bodyAt k n file i = offsetOf (firstBody n) (shadows k n file) i
 
 module _ (k n : ℕ) (file : List ℕ) where
-  positions-are : (xs : List ℕ) → positionsOf (map (shadowOf k n file) xs) ≡ xs
-  unfolding positionsOf shadowOf
-  positions-are [] = refl
-  positions-are (x ∷ xs) = ap (x ∷_) (positions-are xs)
-
   shadows-length : length (shadows k n file) ≡ n
-  unfolding shadows upTo
-  shadows-length = map-length (shadowOf k n file) (upTo n) ∙ tab-length n (λ t. t)
+  unfolding shadows
+  shadows-length = length-map (upTo n) (shadowOf k n file) ∙ all-length n
 
   shadow-at : (i : ℕ) → i < n → shadowAt (shadows k n file) i ≡ shadowOf k n file i
-  unfolding shadows upTo
+  unfolding shadows
   shadow-at i h =
-      map-at (shadowOf k n file) (upTo n) i (omega (arith, tab-length n (λ t. t)))
-      ∙ ap (shadowOf k n file) (tab-at n (λ t. t) i h)
+      made-at (shadowOf k n file) (upTo n) i (omega (arith, all-length n)) ∙ ap (shadowOf k n file) (all-at n i h)
 
   pub body-first : bodyAt k n file 0 ≡ firstBody n
   unfolding bodyAt offsetOf
@@ -98,42 +143,9 @@ module _ (k n : ℕ) (file : List ℕ) where
       ]
 
   module _ (shape : badBundleShape k n (length file) ≡ false) where
-    shadow-stored : (i : ℕ) → Stored (blocksOf k (length file)) (shadowOf k n file i)
-    unfolding shadowOf mostBlocks
-    shadow-stored i =
-        let B = blocksOf k (length file) in
-        let e = symbolAt k n file i in
-        record {
-          long = body-long B e;
-          good =
-              ap (bodyGood B (countOf B e)) (sym (append-nil (bodyOf B e)))
-              ∙ body-good B e [] (limits k n (length file) shape .blocks) (λ b h. symbol-small k n file i b);
-          bytes = body-bytes B e;
-        }
-
-    pub is-bundle-at : (positions : List ℕ) → rises n (length positions) (λ t. getD positions t 0) ≡ true
-        → IsBundle k n (length file) (map (shadowOf k n file) positions) (bundleAt k n file positions)
-    unfolding bundleAt
-    is-bundle-at positions up =
-        record {
-          shape = shape;
-          rising =
-              ap₂ (λ (m : ℕ) (l : List ℕ). rises n m (λ t. getD l t 0)) (map-length (shadowOf k n file) positions) (positions-are positions)
-              ∙ up;
-          stored = map-stored (shadowOf k n file) _ positions shadow-stored;
-          written = refl;
-        }
-
-    pub is-bundle : IsBundle k n (length file) (shadows k n file) (fileBundle k n file)
-    unfolding shadows fileBundle upTo least
-    is-bundle =
-        is-bundle-at (upTo n)
-        (ap (λ (m : ℕ). rises n m (λ t. getD (upTo n) t 0)) (tab-length n (λ t. t))
-        ∙ rises-same n n (λ t. t) _ (λ t h. sym (tab-at n (λ t. t) t h)) (in-order-rises n n (λ t. t) each))
-      where
-        each : (t : ℕ) → t < n → InOrder n (λ t. t) t
-        each zero h = (zero-le, h)
-        each (suc t) h = (omega arith, h)
+    is-bundle : IsBundle k n (length file) (shadows k n file) (fileBundle k n file)
+    unfolding shadows fileBundle
+    is-bundle = file-is-bundle k n file (upTo n) shape (all-rise n)
 
     pub bundle-header : Alike headerSize (fileBundle k n file) 0 (header k n (length file) n) 0
     unfolding bundleOf
@@ -159,10 +171,10 @@ module _ (k n : ℕ) (file : List ℕ) where
       inside = omega (arith, shadows-length)
 
       pub bundle-count : countIn (fileBundle k n file) i ≡ countOf (blocksOf k (length file)) (symbolAt k n file i)
-      unfolding shadowOf
+      unfolding fileBundle
       bundle-count =
-          read-count k n (length file) (shadows k n file) (fileBundle k n file) is-bundle i inside
-          ∙ ap (λ (x : Shadow). x .count) (shadow-at i h)
+          count-held k n file (upTo n) shape (all-rise n) i (omega (arith, all-length n))
+          ∙ ap (λ (p : ℕ). countOf (blocksOf k (length file)) (symbolAt k n file p)) (all-at n i h)
 
       offset-is : offsetOf (firstBody (length (shadows k n file))) (shadows k n file) i ≡ bodyAt k n file i
       unfolding bodyAt
@@ -180,14 +192,15 @@ module _ (k n : ℕ) (file : List ℕ) where
 
       pub bundle-body : Alike (bodySize (blocksOf k (length file)) (countOf (blocksOf k (length file)) (symbolAt k n file i)))
           (fileBundle k n file) (bodyAt k n file i) (bodyOf (blocksOf k (length file)) (symbolAt k n file i)) 0
-      unfolding shadowOf
+      unfolding fileBundle shadows
       bundle-body d l =
-          let body = bodyOf (blocksOf k (length file)) (symbolAt k n file i) in
+          let B = blocksOf k (length file) in
+          let body = bodyOf B (symbolAt k n file i) in
           let F = fileBundle k n file in
           sym (getD-drop (bodyAt k n file i) F d 0)
           ∙ ap (λ (s : List ℕ). getD s d 0)
-          (ap (λ (m : ℕ). drop m F) (sym (read-start k n (length file) (shadows k n file) F is-bundle i (omega (arith, inside)) ∙ offset-is))
-          ∙ read-body k n (length file) (shadows k n file) F is-bundle i inside
-          ∙ ap (λ (x : Shadow). x .body ++ bodies (drop (suc i) (shadows k n file))) (shadow-at i h))
-          ∙ List·getD-append body _ 0 d (omega (arith, body-long (blocksOf k (length file)) (symbolAt k n file i)))
+          (ap (λ (m : ℕ). drop m F) (sym bundle-offset)
+          ∙ body-held k n file (upTo n) shape (all-rise n) i (omega (arith, all-length n))
+          ∙ ap (λ (p : ℕ). bodyOf B (symbolAt k n file p) ++ bodies (drop (suc i) (shadows k n file))) (all-at n i h))
+          ∙ List·getD-append body _ 0 d (omega (arith, body-long B (symbolAt k n file i)))
           ∙ ap (λ (m : ℕ). getD body m 0) {x = d} {y = 0 + d} (omega arith)

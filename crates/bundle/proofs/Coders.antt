@@ -31,16 +31,17 @@ use Rattle.layout.specs.Fields.{entryAt, countIn}
 use Rattle.layout.specs.Held.{upTo}
 use Rattle.layout.specs.Mark.{mark}
 use Rattle.layout.specs.Shadows.{entrySize, header, entry, table, bodies, bundleOf}
-use Rattle.layout.specs.Storage.{overflows, wordOf, countOf, bodyOf}
+use Rattle.layout.specs.Storage.{overflows, wordOf, bodyOf}
 use Rattle.layout.proofs.Accepting.{passes}
 use Rattle.layout.proofs.BytesLaws.{two-alike, alike-front}
+use Rattle.layout.proofs.Holding.{all-length}
 use Rattle.layout.proofs.Passing.{entry-there}
 use Rattle.bundle.specs.File.{padded, messageAt, symbolAt, countAt, shadowOf, bundleAt, fileBundle}
 use Rattle.bundle.specs.Rooms.{writeRoom, workRoom}
 use Rattle.bundle.specs.Useless.{Coder, KeepsEncode, KeepsDecode, KeepsWrite, KeepsRead, Refused, RefusesNothingLess, NotConstant, WritesSomething, CodesLaterBlocks, InventsNothing, Useless}
+use Rattle.bundle.proofs.Bundling.{file-is-bundle, held-all, all-rise, bundle-count}
 use Rattle.bundle.proofs.Demands.{writes-bundle, write-read}
-use Rattle.bundle.proofs.Padding.{zeros-at}
-use Rattle.bundle.proofs.Shadowing.{file-is-bundle, held-all, count-held, all-length, all-at, all-rise}
+use Rattle.bundle.proofs.Padding.{zeros-behind}
 
 -- a call left a result, and x at a place of the list that takes it
 record Told (it : Leaves) (place x : ℕ) : Type 0 where
@@ -150,8 +151,7 @@ count-written k n file rest good i h =
     let there = entry-there (bundleAt k n file (upTo n)) (passes k n (length file) _ _ is) i (omega (arith, held-all k n file (upTo n) good (all-rise n))) in
     two-alike _ (entryAt i + 2) (bundleAt k n file (upTo n)) (entryAt i + 2)
     (alike-front 2 (bundleAt k n file (upTo n)) rest (entryAt i + 2) (omega arith))
-    ∙ count-held k n file (upTo n) good (all-rise n) i (omega arith)
-    ∙ ap (λ (p : ℕ). countOf (blocksOf k (length file)) (symbolAt k n file p)) (all-at n i h)
+    ∙ bundle-count k n file good i h
 
 -- The five
 
@@ -179,7 +179,7 @@ module _ (c : Coder) where
       record {
         encode = λ keeps all. writes (0 ∷ []) refl (encoded c 1 (lit< tt) keeps) (all 1 1 _ _ _);
         decode = λ keeps all. writes (0 ∷ []) refl (decoded c 1 (lit< tt) keeps) (all 1 1 _ _ _ _);
-        write = λ keeps all. writes (zeros (writeRoom 1 2)) (zeros-at (writeRoom 1 2) 27) (wrote c 1 (lit< tt) keeps) (all 1 1 _ _ _);
+        write = λ keeps all. writes (zeros (writeRoom 1 2)) (zeros-behind [] (writeRoom 1 2) 27) (wrote c 1 (lit< tt) keeps) (all 1 1 _ _ _);
         read = λ keeps all. writes (zeros 4) refl (read c 1 (lit< tt) keeps) (all _ _ _);
       }
 

@@ -20,7 +20,7 @@ use Rattle.layout.proofs.Holding.{limits}
 use Rattle.layout.proofs.Storing.{overflow-count}
 use Rattle.bundle.specs.File.{messageAt, symbolAt}
 use Rattle.bundle.specs.Writing.{tallied, Coded, Counted}
-use Rattle.bundle.proofs.Messages.{zeros-behind}
+use Rattle.bundle.proofs.Padding.{zeros-behind}
 
 pub n-fits : (k n L : ℕ) → badBundleShape k n L ≡ false → n ≤ sizeOf n
 n-fits k n L shape = size-enough n (omega (arith, limits k n L shape))

@@ -1,3 +1,4 @@
+pub mod Padding
 pub mod Messages
 pub mod Placing
 pub mod Counting
@@ -5,7 +6,6 @@ pub mod Bundling
 pub mod Onward
 pub mod Filling
 pub mod Fronting
-pub mod Padding
 pub mod Passing
 pub mod HeldBlocks
 pub mod Walking

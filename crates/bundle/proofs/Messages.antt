@@ -1,55 +1,33 @@
 -- The messages of a file: their words are the file's own, as the padding reads like what is behind the end, and a block's coefficients are its
 -- message and zeros.
 -- Assumes nothing.
-use mathlib.Core.Path.{_≡_, refl, sym, subst, ap, ap₂, _∙_}
+use mathlib.Core.Path.{_≡_, sym, subst, ap, ap₂, _∙_}
 use mathlib.Core.Bool.{false}
-use mathlib.Core.List.{List, [], _∷_, _++_}
-use Prim.Native.Nat.{ℕ, zero, suc, _+_, _-_, _*_, _≤_}
+use mathlib.Core.List.{List, _++_}
+use Prim.Native.Nat.{ℕ, _+_, _-_, _*_, _≤_}
 use native.Mathlib.Omega.{arith}
-use lib.ListN.{length, getD, take, drop, replicate}
+use lib.ListN.{length, take, drop, replicate}
 use lib.Seq.{length-take-le}
 use Rattle.field.specs.Shape.{badShape}
 use Rattle.field.specs.Size.{sizeOf}
-use Rattle.field.specs.Symbol.{Symbols}
 use Rattle.poly.specs.Tab.{tab}
-use Rattle.poly.proofs.Tab.{tab-length, tab-at, tab-ext}
+use Rattle.poly.proofs.Tab.{tab-ext}
 use Rattle.transform.specs.Ready.{Ready}
 use Rattle.transform.specs.Transform.{transformOf}
 use Rattle.block.specs.Codable.{Codable}
 use Rattle.block.specs.Code.{codeWord}
 use Rattle.block.proofs.Spreading.{laid, full, full-ready, kept-front}
-use Rattle.layout.specs.Blocks.{blocksOf}
 use Rattle.layout.specs.Bytes.{Bytes, twoAt}
-use Rattle.layout.proofs.BytesLaws.{two-lt}
-use Rattle.bundle.specs.File.{padded, messageAt}
-
-pub zeros-behind : (s : List ℕ) (m p : ℕ) → getD (s ++ replicate m 0) p 0 ≡ getD s p 0
-zeros-behind [] zero p = refl
-zeros-behind [] (suc m) zero = refl
-zeros-behind [] (suc m) (suc p) = zeros-behind [] m p
-zeros-behind (x ∷ s) m zero = refl
-zeros-behind (x ∷ s) m (suc p) = zeros-behind s m p
+use Rattle.bundle.specs.File.{messageAt}
+use Rattle.bundle.proofs.Padding.{padded-at, message-length, message-is}
 
 module _ (k : ℕ) (file : List ℕ) (b : ℕ) where
-  padded-at : (p : ℕ) → getD (padded k file) p 0 ≡ getD file p 0
-  unfolding padded
-  padded-at = zeros-behind file (2 * (k * blocksOf k (length file)) - length file)
-
   message-words : messageAt k file b ≡ tab k (λ i. twoAt file (2 * (k * b) + 2 * i))
   unfolding messageAt twoAt
   message-words =
       tab-ext k _ _
-      (λ i h. ap₂ (λ (x y : ℕ). 256 * x + y) (padded-at (2 * (k * b + i))) (padded-at (2 * (k * b + i) + 1))
+      (λ i h. ap₂ (λ (x y : ℕ). 256 * x + y) (padded-at k file (2 * (k * b + i))) (padded-at k file (2 * (k * b + i) + 1))
       ∙ ap (twoAt file) {x = 2 * (k * b + i)} {y = 2 * (k * b) + 2 * i} (omega arith))
-
-  pub message-length : length (messageAt k file b) ≡ k
-  unfolding messageAt
-  message-length = tab-length k _
-
-  message-symbols : Bytes file → Symbols (messageAt k file b)
-  message-symbols bytes i h =
-      rw (message-words, tab-at k (λ j. twoAt file (2 * (k * b) + 2 * j)) i (omega (arith, message-length)))
-      (omega (arith, two-lt file (2 * (k * b) + 2 * i) bytes))
 
   -- words is what the first k cells hold once the words are laid, cleared what the rest of them holds after
   pub laid-block : (cells words cleared : List ℕ) → k ≤ length cells
@@ -64,20 +42,20 @@ module _ (k : ℕ) (file : List ℕ) (b : ℕ) where
       subst (λ (m : ℕ).
       cleared ≡ replicate (length (take (length copied - m) (drop m copied))) 0
       → take m copied ++ (cleared ++ drop (length copied - m) (drop m copied)) ≡ message ++ replicate (length cells - m) 0)
-      message-length
-      (laid message cells copied cleared (omega (arith, message-length))
+      (message-length k file b)
+      (laid message cells copied cleared (omega (arith, message-length k file b))
       (ap₂ _++_ (is ∙ ap (λ (m : ℕ). tab m (λ i. twoAt file (2 * (k * b) + 2 * i))) {y = k} (length-take-le (k - 0) cells (omega arith) ∙ omega arith) ∙ sym message-words)
-      (ap (λ (m : ℕ). drop m cells) {x = k - 0} {y = length message} (omega (arith, message-length)))))
+      (ap (λ (m : ℕ). drop m cells) {x = k - 0} {y = length message} (omega (arith, message-length k file b)))))
 
   -- cells is what they hold once the message is laid out
   module _ (n : ℕ) (cells : List ℕ) (size : ℕ) (bytes : Bytes file) (shape : badShape k n ≡ false) (long : size ≡ sizeOf n) (is : cells ≡ messageAt k file b ++ replicate (size - k) 0) where
     codable : Codable n (messageAt k file b)
     codable =
-        record { shape = ap (λ (m : ℕ). badShape m n) message-length ∙ shape; symbols = message-symbols bytes }
+        record { shape = ap (λ (m : ℕ). badShape m n) (message-length k file b) ∙ shape; symbols = message-is k file bytes b .symbols }
 
     coefficients : cells ≡ full n (messageAt k file b) codable
     unfolding full
-    coefficients = is ∙ ap₂ (λ (N m : ℕ). messageAt k file b ++ replicate (N - m) 0) long (sym message-length)
+    coefficients = is ∙ ap₂ (λ (N m : ℕ). messageAt k file b ++ replicate (N - m) 0) long (sym (message-length k file b))
 
     pub block-ready : Ready cells
     block-ready = subst Ready (sym coefficients) (full-ready n (messageAt k file b) codable)

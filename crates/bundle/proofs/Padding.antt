@@ -2,14 +2,14 @@
 -- Assumes nothing.
 use mathlib.Core.Path.{_≡_, refl, sym, ap, ap₂, _∙_}
 use mathlib.Core.Bool.{Bool, false, not}
-use mathlib.Core.List.{List}
+use mathlib.Core.List.{List, [], _∷_, _++_}
 use Prim.Native.Nat.{ℕ, zero, suc, _+_, _*_, _-_, _<_, _≤_}
 use native.Mathlib.Nat.{div-add-mod, mod-lt, mul-le-mul-left, zero-add}
 use native.Mathlib.Omega.{arith}
 use borrow.Author.Tests.{le-ltb, eq-eqb, ne-eqb}
 use lib.Dec.{eqb}
-use lib.ListN.{length, getD, drop, replicate, length-append, length-drop, length-replicate}
-use lib.Seq.{ext-getD, getD-append-add, getD-drop}
+use lib.ListN.{length, getD, drop, replicate, length-append, length-drop, length-replicate, List·getD-eq-default}
+use lib.Seq.{ext-getD, getD-drop}
 use Rattle.field.proofs.First.{first-none}
 use Rattle.poly.specs.Tab.{tab}
 use Rattle.poly.proofs.Symbols.{tab-symbols}
@@ -46,12 +46,14 @@ words-back s bytes m long =
     ext-getD 0 (inBytes (tab m (λ i. twoAt s (2 * i)))) s (omega arith)
     (λ i h. words-at s bytes m 0 _ (λ j l. ap (twoAt s) (sym (zero-add (2 * j)))) i (omega arith) ∙ ap (λ (m : ℕ). getD s m 0) (zero-add i))
 
--- Zero bytes
+-- Zero bytes: behind the end a list reads as they do
 
-pub zeros-at : (n i : ℕ) → getD {A = ℕ} (replicate n 0) i 0 ≡ 0
-zeros-at zero i = refl
-zeros-at (suc n) zero = refl
-zeros-at (suc n) (suc i) = zeros-at n i
+pub zeros-behind : (s : List ℕ) (m p : ℕ) → getD (s ++ replicate m 0) p 0 ≡ getD s p 0
+zeros-behind [] zero p = refl
+zeros-behind [] (suc m) zero = refl
+zeros-behind [] (suc m) (suc p) = zeros-behind [] m p
+zeros-behind (x ∷ s) m zero = refl
+zeros-behind (x ∷ s) m (suc p) = zeros-behind s m p
 
 none-meets : (test : ℕ → Bool) (vs : List ℕ) → ((i : ℕ) → i < length vs → test (getD vs i 0) ≡ false) → some-meets test vs ≡ false
 unfolding some-meets
@@ -74,17 +76,18 @@ module _ (k : ℕ) (file : List ℕ) where
   unfolding padded
   padded-length some = simp (length-append, length-replicate) (omega (arith, blocks-hold k (length file) some))
 
-  padding-zero : (i : ℕ) → length file ≤ i → getD (padded k file) i 0 ≡ 0
+  pub padded-at : (i : ℕ) → getD (padded k file) i 0 ≡ getD file i 0
   unfolding padded
-  padding-zero i h =
-      ap (λ (m : ℕ). getD (padded k file) m 0) {x = i} {y = length file + (i - length file)} (omega arith)
-      ∙ getD-append-add file _ (i - length file) 0
-      ∙ zeros-at (2 * (k * blocksOf k (length file)) - length file) (i - length file)
+  padded-at = zeros-behind file (2 * (k * blocksOf k (length file)) - length file)
+
+  pub message-length : (b : ℕ) → length (messageAt k file b) ≡ k
+  unfolding messageAt
+  message-length b = tab-length k _
 
   module _ (bytes : Bytes file) where
     padded-bytes : Bytes (padded k file)
     unfolding padded
-    padded-bytes = bytes-append file _ bytes (λ i h. omega (arith, zeros-at (2 * (k * blocksOf k (length file)) - length file) i))
+    padded-bytes = bytes-append file _ bytes (λ i h. omega (arith, zeros-behind [] (2 * (k * blocksOf k (length file)) - length file) i))
 
     pub padded-words : 0 < k → inBytes (tab (k * blocksOf k (length file)) (λ i. twoAt (padded k file) (2 * i))) ≡ padded k file
     padded-words some = words-back (padded k file) padded-bytes (k * blocksOf k (length file)) (padded-length some)
@@ -106,7 +109,7 @@ module _ (k : ℕ) (file : List ℕ) where
       unfolding messageAt
       message-is =
           record {
-            long = tab-length k _;
+            long = message-length b;
             symbols = tab-symbols k _ (λ i h. omega (arith, two-lt (padded k file) (2 * (k * b + i)) padded-bytes));
           }
 
@@ -115,7 +118,7 @@ module _ (k : ℕ) (file : List ℕ) where
       word-good =
           none-meets (λ x. eqb x 65536) (messageAt k file b)
           (λ i h. ne-eqb (getD (messageAt k file b) i 0) 65536
-          (λ e. omega (arith, message-at i (omega (arith, message-is .long)), two-lt (padded k file) (2 * (k * b + i)) padded-bytes)))
+          (λ e. omega (arith, message-at i (omega (arith, message-length b)), two-lt (padded k file) (2 * (k * b + i)) padded-bytes)))
 
       pub tail-good : badTail k (length file) b (messageAt k file b) ≡ false
       unfolding badTail
@@ -124,5 +127,6 @@ module _ (k : ℕ) (file : List ℕ) where
           (λ i h. ap not (eq-eqb _ 0
           (getD-drop (length file - 2 * (k * b)) (inBytes (messageAt k file b)) i 0
           ∙ bytes-at (length file - 2 * (k * b) + i)
-          (omega (arith, length-drop (length file - 2 * (k * b)) (inBytes (messageAt k file b)), in-bytes-length (messageAt k file b), message-is .long))
-          ∙ padding-zero (2 * (k * b) + (length file - 2 * (k * b) + i)) (omega arith))))
+          (omega (arith, length-drop (length file - 2 * (k * b)) (inBytes (messageAt k file b)), in-bytes-length (messageAt k file b), message-length b))
+          ∙ padded-at (2 * (k * b) + (length file - 2 * (k * b) + i))
+          ∙ List·getD-eq-default file 0 {n = 2 * (k * b) + (length file - 2 * (k * b) + i)} (omega arith))))

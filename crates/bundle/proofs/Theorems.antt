@@ -3,16 +3,16 @@
 use Rattle.bundle.specs.Theorems.{FileIsBundle, WritesBundle, WriteRead, LoseRead, DisagreeExactly, NeverAnother, TakenIsSent, WriteSettled, ReadSettled}
 use Rattle.bundle.specs.Useless.{Useless}
 use Rattle.bundle.specs.Worked.{WorkedTable}
+use Rattle.bundle.proofs.Bundling as Bundling
 use Rattle.bundle.proofs.Coders as Coders
 use Rattle.bundle.proofs.Demands as Demands
 use Rattle.bundle.proofs.Settling.{settled}
-use Rattle.bundle.proofs.Shadowing as Shadowing
 use Rattle.bundle.proofs.Worked as Worked
 
 -- Demand 2
 
 pub file-is-bundle : FileIsBundle
-file-is-bundle = Shadowing.file-is-bundle
+file-is-bundle = Bundling.file-is-bundle
 
 pub writes-bundle : WritesBundle
 writes-bundle = Demands.writes-bundle

@@ -1,11 +1,11 @@
 -- Every bundle passes the tests of the layout, and is read as what it was made of.
 -- Assumes nothing.
 use mathlib.Core.Path.{_≡_, refl, sym, ap, ap₂, _∙_}
-use mathlib.Core.Bool.{true, false}
+use mathlib.Core.Bool.{true, false, not}
 use mathlib.Core.List.{List, [], _++_, append-assoc}
 use Prim.Native.Nat.{ℕ, zero, suc, _+_, _*_, _<_, _≤_}
 use native.Mathlib.Omega.{arith}
-use borrow.Author.Tests.{le-ltb, le-leb, eq-eqb}
+use borrow.Author.Tests.{le-ltb, eq-eqb}
 use lib.Dec.{lit≤}
 use lib.ListN.{length, getD, take, drop, length-append}
 use lib.Seq.{take-at}
@@ -20,8 +20,10 @@ use Rattle.layout.specs.Mark.{mark, startsWith}
 use Rattle.layout.specs.Shadows.{Shadow, headerSize, entrySize, firstBody, header, entry, table, bodies, bundleOf}
 use Rattle.layout.specs.Storage.{bodySize, bodyGood}
 use Rattle.layout.proofs.BytesLaws.{Alike, alike-on, alike-past, alike-front, two-alike, four-alike}
-use Rattle.layout.proofs.RisingLaws.{InOrder, rises-in-order, rising-count, rises-same, not-out, found-none}
+use Rattle.layout.proofs.RisingLaws.{InOrder, rises-in-order, rising-count, rises-same, not-out}
 use Rattle.layout.proofs.Storing.{good-parts, good-moved}
+use Rattle.layout.proofs.Entries.{bad-body, rest-is}
+use Rattle.layout.proofs.Passing.{tests-pass}
 use Rattle.layout.proofs.Holding.{limits, shadowAt, position-at, stored-at, shadows-are, offsetOf, offset-next, offset-end, body-there, table-length, entry-there}
 
 -- The header
@@ -77,7 +79,7 @@ entry-offset x off h = omega arith
 module _ (k n L : ℕ) (hs : List Shadow) (s : List ℕ) (is : IsBundle k n L hs s) where
   -- What the limits say of the shadows
 
-  pub few : length hs ≤ 4096
+  few : length hs ≤ 4096
   few = omega (arith, limits k n L (is .shape), rising-count n (length hs) _ (is .rising))
 
   position-lt : (t : ℕ) → t < length hs → shadowAt hs t .position < 65536
@@ -190,25 +192,24 @@ module _ (k n L : ℕ) (hs : List Shadow) (s : List ℕ) (is : IsBundle k n L hs
       (rises-in-order n (length hs) (positionIn s) (rises-same n (length hs) _ _ (λ t h. position-at hs t h ∙ sym (read-position t h)) (is .rising)))
 
   entry-good : (t : ℕ) → t < length hs → badEntry s t ≡ false
-  unfolding badEntry
   entry-good t h =
-      rw (not-out (nIn s) (positionIn s) t (in-order t h), eq-eqb (offsetIn s t) (startOf s t) (read-offset t h ∙ sym (read-start t (omega arith))), body-good t h)
+      bad-body s t (nIn s) refl (offsetIn s t) (startOf s t) (not-out (nIn s) (positionIn s) t (in-order t h)) refl refl (blocksIn s) (countIn s t)
+      (read-offset t h ∙ sym (read-start t (omega arith))) refl refl
+      ∙ ap not (body-good t h)
 
   rest-good : restGood s ≡ true
-  unfolding restGood
   rest-good =
-      let end = read-start (length hs) (omega arith) ∙ offset-end (firstBody (length hs)) hs ∙ sym bundle-length in
-      rw (read-m, le-leb (firstBody (length hs)) (length s) (omega (arith, bundle-length)), found-none (length hs) (badEntry s) entry-good, eq-eqb (startOf s (length hs)) (length s) end)
+      rest-is s (length hs) (startOf s (length hs)) (sym read-m) refl (omega (arith, bundle-length)) entry-good
+      ∙ eq-eqb (startOf s (length hs)) (length s) (read-start (length hs) (omega arith) ∙ offset-end (firstBody (length hs)) hs ∙ sym bundle-length)
 
   front-good : badFront s ≡ false
   unfolding bundleOf
   front-good = ap badFront (is .written) ∙ header-front k n L (length hs) _
 
   pub passes : layoutChecks s ≡ result []
-  unfolding layoutChecks
-  passes = rw (front-good, read-k, read-n, read-L, is .shape, rest-good)
+  passes = tests-pass s front-good (rw (read-k, read-n, read-L) (is .shape)) rest-good
 
-  pub read-shadow : (t : ℕ) → t < length hs → shadowIn s t ≡ shadowAt hs t
+  read-shadow : (t : ℕ) → t < length hs → shadowIn s t ≡ shadowAt hs t
   unfolding shadowIn
   read-shadow t h =
       let long = ap₂ bodySize read-blocks (read-count t h) ∙ sym (stored-there t h .long) in

@@ -17,10 +17,6 @@ pub two-length : (x : ℕ) → length (two x) ≡ 2
 unfolding two
 two-length x = refl
 
-pub four-length : (x : ℕ) → length (four x) ≡ 4
-unfolding four two
-four-length x = refl
-
 pub in-bytes-length : (xs : List ℕ) → length (inBytes xs) ≡ 2 * length xs
 unfolding inBytes two
 in-bytes-length [] = refl
@@ -62,31 +58,6 @@ alike-drop n m s at i e d h = getD-drop m s (at + d) 0 ∙ getD-ix s (m + (at + 
 pub alike-take : (n m : ℕ) (s : List ℕ) (at : ℕ) → at + n ≤ m → Alike n (take m s) at s at
 alike-take n m s at h d l = getD-take m s (at + d) 0 (omega arith)
 
--- What was written is read back
-
-pub two-front : (x : ℕ) (q : List ℕ) → x < 65536 → twoAt (two x ++ q) 0 ≡ x
-unfolding twoAt two
-two-front x q h = omega arith
-
-pub four-front : (x : ℕ) (q : List ℕ) → x < 4294967296 → fourAt (four x ++ q) 0 ≡ x
-unfolding fourAt twoAt four two
-four-front x q h = omega arith
-
-pub two-there : (p : List ℕ) (x : ℕ) (q : List ℕ) (at : ℕ) → at ≡ length p → x < 65536 → twoAt (p ++ (two x ++ q)) at ≡ x
-two-there p x q at e h = two-alike _ at _ 0 (alike-past 2 p (two x ++ q) 0 at (omega arith)) ∙ two-front x q h
-
-pub four-there : (p : List ℕ) (x : ℕ) (q : List ℕ) (at : ℕ) → at ≡ length p → x < 4294967296 → fourAt (p ++ (four x ++ q)) at ≡ x
-four-there p x q at e h = four-alike _ at _ 0 (alike-past 4 p (four x ++ q) 0 at (omega arith)) ∙ four-front x q h
-
-pub in-bytes-at : (xs q : List ℕ) (j : ℕ) → j < length xs → getD xs j 0 < 65536 → twoAt (inBytes xs ++ q) (2 * j) ≡ getD xs j 0
-unfolding inBytes
-in-bytes-at [] q j h low = absurd (not-suc-le-zero h)
-in-bytes-at (x ∷ xs) q zero h low = rw (append-assoc (two x) (inBytes xs) q) (two-front x (inBytes xs ++ q) low)
-in-bytes-at (x ∷ xs) q (suc j) h low =
-    rw (append-assoc (two x) (inBytes xs) q)
-    (two-alike _ (2 * suc j) _ (2 * j) (alike-past 2 (two x) (inBytes xs ++ q) (2 * j) (2 * suc j) (omega (arith, two-length x)))
-    ∙ in-bytes-at xs q j (le-of-suc-le-suc h) low)
-
 pub in-bytes-there : (xs q : List ℕ) (j : ℕ) → j < length xs → Alike 2 (inBytes xs ++ q) (2 * j) (two (getD xs j 0)) 0
 unfolding inBytes
 in-bytes-there [] q j h = absurd (not-suc-le-zero h)
@@ -96,6 +67,15 @@ in-bytes-there (x ∷ xs) q (suc j) h =
     rw (append-assoc (two x) (inBytes xs) q)
     (λ d l. alike-past 2 (two x) (inBytes xs ++ q) (2 * j) (2 * suc j) (omega (arith, two-length x)) d l
     ∙ in-bytes-there xs q j (le-of-suc-le-suc h) d l)
+
+-- What was written is read back
+
+two-back : (x : ℕ) → x < 65536 → twoAt (two x) 0 ≡ x
+unfolding twoAt two
+two-back x h = omega arith
+
+pub in-bytes-at : (xs q : List ℕ) (j : ℕ) → j < length xs → getD xs j 0 < 65536 → twoAt (inBytes xs ++ q) (2 * j) ≡ getD xs j 0
+in-bytes-at xs q j h low = two-alike _ (2 * j) _ 0 (in-bytes-there xs q j h) ∙ two-back (getD xs j 0) low
 
 pub in-bytes-append : (xs ys : List ℕ) → inBytes (xs ++ ys) ≡ inBytes xs ++ inBytes ys
 unfolding inBytes
@@ -115,10 +95,6 @@ byte-at s bytes i =
 pub two-lt : (s : List ℕ) (at : ℕ) → Bytes s → twoAt s at < 65536
 unfolding twoAt
 two-lt s at bytes = omega (arith, byte-at s bytes at, byte-at s bytes (at + 1))
-
-pub four-lt : (s : List ℕ) (at : ℕ) → Bytes s → fourAt s at < 4294967296
-unfolding fourAt
-four-lt s at bytes = omega (arith, two-lt s at bytes, two-lt s (at + 2) bytes)
 
 -- each number of a list has a property
 

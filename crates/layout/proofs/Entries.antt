@@ -2,35 +2,26 @@
 -- of all says.
 -- Assumes nothing.
 use mathlib.Core.Path.{_≡_, refl}
-use mathlib.Core.Bool.{Bool, true, false, not, _&&_}
+use mathlib.Core.Bool.{true, false, not}
 use mathlib.Core.List.{List}
 use Prim.Native.Nat.{ℕ, _+_, _*_, _<_, _≤_}
 use native.Mathlib.Numerals.{add-one}
 use native.Mathlib.Omega.{arith}
-use borrow.Author.Tests.{eq-eqb, ne-eqb, lt-leb, le-leb, leb-true, eqb-true, not-false}
+use borrow.Author.Tests.{eq-eqb, ne-eqb, lt-leb, le-leb, eqb-true, not-false}
 use lib.Dec.{eqb}
 use lib.ListN.{length, drop, length-drop}
 use Rattle.field.proofs.Checks.{or-false}
 use Rattle.layout.specs.Fields.{nIn, heldIn, blocksIn, entryAt, positionIn, countIn, offsetIn}
 use Rattle.layout.specs.Layout.{startOf, badEntry, restGood}
-use Rattle.layout.specs.Rising.{least, outOfOrder, rises}
+use Rattle.layout.specs.Rising.{outOfOrder}
 use Rattle.layout.specs.Shadows.{entrySize, firstBody}
-use Rattle.layout.specs.Storage.{bodySize, listAt, bodyGood}
-use Rattle.layout.proofs.Ordering.{ordered}
-use Rattle.layout.proofs.Searching.{one-bad, all-pass}
+use Rattle.layout.specs.Storage.{bodySize, bodyGood}
+use Rattle.layout.proofs.RisingLaws.{InOrder, in-order, found-none, one-bad}
+use Rattle.layout.proofs.Storing.{good-parts}
 
-pub and-true : (a b : Bool) → a && b ≡ true → (a ≡ true) × (b ≡ true)
-and-true true b e = (refl, e)
-and-true false b e = absurd (let z : _≡_ {A = ℕ} 0 1 = cc in omega arith)
-
--- One body
-
-pub body-told : (B c : ℕ) (s : List ℕ) → bodyGood B c s ≡ true → (bodySize B c ≤ length s) × (rises B c (listAt s) ≡ true)
-unfolding bodyGood
-body-told B c s e = let both = and-true _ _ e in (leb-true (bodySize B c) (length s) (both .0), both .1)
-
+-- a body that is good lies inside
 pub body-inside : (B c at : ℕ) (s : List ℕ) → at ≤ length s → bodyGood B c (drop at s) ≡ true → at + bodySize B c ≤ length s
-body-inside B c at s h e = omega (arith, body-told B c (drop at s) e .0, length-drop at s)
+body-inside B c at s h e = omega (arith, good-parts B c (drop at s) e .0, length-drop at s)
 
 -- One entry
 
@@ -39,14 +30,13 @@ unfolding firstBody entryAt entrySize
 entry-inside m t s h l = omega arith
 
 pub entry-told : (s : List ℕ) (t : ℕ) → badEntry s t ≡ false
-    → (least (positionIn s) t ≤ positionIn s t) × (positionIn s t < nIn s) × (offsetIn s t ≡ startOf s t)
+    → InOrder (nIn s) (positionIn s) t × (offsetIn s t ≡ startOf s t)
     × (bodyGood (blocksIn s) (countIn s t) (drop (startOf s t) s) ≡ true)
 unfolding badEntry
 entry-told s t e =
     let parts = or-false _ _ e in
     let placed = or-false _ _ (parts .1) in
-    let order = ordered (nIn s) (positionIn s) t (parts .0) in
-    (order .0, order .1, eqb-true (offsetIn s t) (startOf s t) (not-false _ (placed .0)), not-false _ (placed .1))
+    (in-order (nIn s) (positionIn s) t (parts .0), eqb-true (offsetIn s t) (startOf s t) (not-false _ (placed .0)), not-false _ (placed .1))
 
 -- n, offset, at, B and count as the code has them
 module _ (s : List ℕ) (t n : ℕ) (limit : n ≡ nIn s) where
@@ -71,7 +61,7 @@ pub start-first : (s : List ℕ) → startOf s 0 ≡ firstBody (heldIn s)
 unfolding startOf
 start-first s = refl
 
-pub start-next : (s : List ℕ) (t : ℕ) → startOf s (t + 1) ≡ startOf s t + bodySize (blocksIn s) (countIn s t)
+start-next : (s : List ℕ) (t : ℕ) → startOf s (t + 1) ≡ startOf s t + bodySize (blocksIn s) (countIn s t)
 unfolding startOf
 start-next s t = rw add-one refl
 
@@ -83,7 +73,7 @@ module _ (s : List ℕ) (t at B count : ℕ) (start : at ≡ startOf s t) (block
   pub end-inside : at ≤ length s → badEntry s t ≡ false → at + (2 * count + 2 * B) ≤ length s
   unfolding bodySize
   end-inside h e =
-      omega (arith, body-inside (blocksIn s) (countIn s t) (startOf s t) s (omega arith) (entry-told s t e .3))
+      omega (arith, body-inside (blocksIn s) (countIn s t) (startOf s t) s (omega arith) (entry-told s t e .2))
 
 pub rest-short : (s : List ℕ) → length s < firstBody (heldIn s) → restGood s ≡ false
 unfolding restGood
@@ -97,4 +87,4 @@ rest-bad s t h l before here = simp (le-leb _ _ h, one-bad _ t (badEntry s) l be
 pub rest-is : (s : List ℕ) (t at : ℕ) → t ≡ heldIn s → at ≡ startOf s t → firstBody t ≤ length s → ((k : ℕ) → k < t → badEntry s k ≡ false)
     → restGood s ≡ eqb at (length s)
 unfolding restGood
-rest-is s t at all start h fine = rw (← all, ← start) (simp (le-leb (firstBody t) (length s) h, all-pass t (badEntry s) fine))
+rest-is s t at all start h fine = rw (← all, ← start) (simp (le-leb (firstBody t) (length s) h, found-none t (badEntry s) fine))

@@ -1,24 +1,23 @@
 -- The shadows of a bundle, one by one: what the table says of each, where its body begins, and what the bundle's limits say of them.
 -- Assumes nothing.
 use mathlib.Core.Path.{_≡_, refl, _∙_}
-use mathlib.Core.Bool.{false, _||_}
+use mathlib.Core.Bool.{false}
 use mathlib.Core.List.{List, [], _∷_, _++_, map, append-assoc}
 use Prim.Native.Nat.{ℕ, zero, suc, _+_, _*_, _<_, _≤_, suc-le-suc}
 use native.Mathlib.Nat.{not-suc-le-zero, le-of-suc-le-suc, zero-lt-suc}
 use native.Mathlib.Omega.{arith}
-use borrow.Author.Tests.{ltb-false}
-use lib.Dec.{ltb}
 use lib.ListN.{length, getD, drop, length-append}
 use lib.Seq.{drop-at}
-use Rattle.field.specs.Shape.{longest, badShape}
-use Rattle.field.proofs.Checks.{or-false}
+use Rattle.field.specs.Shape.{longest}
 use Rattle.field.proofs.Shape.{shape-good}
 use Rattle.poly.specs.Tab.{tab}
+use Rattle.poly.proofs.Tab.{tab-length, tab-at}
 use Rattle.layout.specs.Blocks.{blocksOf, longestFile, mostBlocks, badBundleShape}
 use Rattle.layout.specs.Bytes.{two, four}
-use Rattle.layout.specs.Held.{positionsOf, Stored, AllStored}
+use Rattle.layout.specs.Held.{upTo, positionsOf, Stored, AllStored}
 use Rattle.layout.specs.Shadows.{Shadow, entrySize, entry, table, bodies}
 use Rattle.layout.proofs.BytesLaws.{Alike, alike-past, alike-front}
+use Rattle.layout.proofs.Passing.{bundle-shape-told}
 
 pub record Limits (k n L : ℕ) : Type 0 where
   pub some : 0 < k
@@ -28,17 +27,16 @@ pub record Limits (k n L : ℕ) : Type 0 where
   pub blocks : blocksOf k L ≤ 65535
 
 pub limits : (k n L : ℕ) → badBundleShape k n L ≡ false → Limits k n L
-unfolding badBundleShape longest longestFile mostBlocks
+unfolding longest longestFile mostBlocks
 limits k n L e =
-    let all = or-false (badShape k n) (ltb longestFile L || ltb mostBlocks (blocksOf k L)) e in
-    let more = or-false (ltb longestFile L) (ltb mostBlocks (blocksOf k L)) (all .1) in
-    let code = shape-good k n (all .0) in
+    let told = bundle-shape-told k n L e in
+    let code = shape-good k n (told .0) in
     record {
       some = code .0;
       code = code .1;
       long = code .2;
-      file = ltb-false longestFile L (more .0);
-      blocks = ltb-false mostBlocks (blocksOf k L) (more .1);
+      file = told .1;
+      blocks = told .2;
     }
 
 -- Shadow t of a list
@@ -60,6 +58,30 @@ unfolding AllStored
 stored-at B [] t h all = absurd (not-suc-le-zero h)
 stored-at B (x ∷ hs) zero h all = all .0
 stored-at B (x ∷ hs) (suc t) h all = stored-at B hs t (le-of-suc-le-suc h) (all .1)
+
+-- the shadows that f gives for a list's numbers
+
+module _ (f : ℕ → Shadow) where
+  pub made-at : (xs : List ℕ) (t : ℕ) → t < length xs → shadowAt (map f xs) t ≡ f (getD xs t 0)
+  made-at [] t h = absurd (not-suc-le-zero h)
+  made-at (x ∷ xs) zero h = refl
+  made-at (x ∷ xs) (suc t) h = made-at xs t (le-of-suc-le-suc h)
+
+  pub made-stored : (B : ℕ) (xs : List ℕ) → ((t : ℕ) → t < length xs → Stored B (f (getD xs t 0))) → AllStored B (map f xs)
+  unfolding AllStored
+  made-stored B [] each = tt
+  made-stored B (x ∷ xs) each =
+      (each 0 (zero-lt-suc (length xs)), made-stored B xs (λ t h. each (suc t) (suc-le-suc h)))
+
+-- the numbers 0 to n - 1
+
+pub all-length : (n : ℕ) → length (upTo n) ≡ n
+unfolding upTo
+all-length n = tab-length n (λ t. t)
+
+pub all-at : (n t : ℕ) → t < n → getD (upTo n) t 0 ≡ t
+unfolding upTo
+all-at n t h = tab-at n (λ t. t) t h
 
 -- a list of shadows that is given one by one
 
@@ -100,7 +122,7 @@ body-there p off (x ∷ hs) (suc t) e h =
 
 -- The table
 
-pub entry-length : (x : Shadow) (off : ℕ) → length (entry x off) ≡ entrySize
+entry-length : (x : Shadow) (off : ℕ) → length (entry x off) ≡ entrySize
 unfolding entry two four entrySize
 entry-length x off = refl
 

@@ -1,12 +1,9 @@
-pub mod Putting
-pub mod Searching
-pub mod Ordering
-pub mod Entries
-pub mod Passing
 pub mod BytesLaws
 pub mod PutLaws
 pub mod RisingLaws
 pub mod Storing
+pub mod Entries
+pub mod Passing
 pub mod Holding
 pub mod Accepting
 pub mod Accepted

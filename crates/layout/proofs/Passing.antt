@@ -20,12 +20,12 @@ use Rattle.layout.specs.Blocks.{blocksOf, longestFile, mostBlocks, badBu
 use Rattle.layout.specs.Fields.{kIn, nIn, lengthIn, heldIn, lastIn, blocksIn, entryAt, positionIn, countIn, offsetIn}
 use Rattle.layout.specs.Layout.{badFront, startOf, badEntry, restGood, layoutChecks}
 use Rattle.layout.specs.Mark.{mark, startsWith}
-use Rattle.layout.specs.Rising.{least, rises}
+use Rattle.layout.specs.Rising.{rises}
 use Rattle.layout.specs.Shadows.{headerSize, entrySize, firstBody}
-use Rattle.layout.specs.Storage.{bodySize, listAt, bodyGood}
-use Rattle.layout.proofs.Entries.{and-true, body-told, body-inside, entry-inside, entry-told}
-use Rattle.layout.proofs.Ordering.{rising, few}
-use Rattle.layout.proofs.Searching.{each-passes}
+use Rattle.layout.specs.Storage.{bodyGood}
+use Rattle.layout.proofs.RisingLaws.{none-found, in-order-rises, rising-apart, rising-count}
+use Rattle.layout.proofs.Storing.{both}
+use Rattle.layout.proofs.Entries.{body-inside, entry-inside, entry-told}
 
 -- The three tests, both ways
 
@@ -63,14 +63,14 @@ bundle-shape-told k n L e =
     let limits = or-false (ltb longestFile L) (ltb mostBlocks (blocksOf k L)) (shape .1) in
     (shape .0, ltb-false longestFile L (limits .0), ltb-false mostBlocks (blocksOf k L) (limits .1))
 
-pub rest-told : (s : List ℕ) → restGood s ≡ true
+rest-told : (s : List ℕ) → restGood s ≡ true
     → (firstBody (heldIn s) ≤ length s) × ((t : ℕ) → t < heldIn s → badEntry s t ≡ false) × (startOf s (heldIn s) ≡ length s)
 unfolding restGood
 rest-told s e =
-    let there = and-true (leb (firstBody (heldIn s)) (length s)) _ e in
-    let rest = and-true (leb (heldIn s) (first (heldIn s) (badEntry s))) _ (there .1) in (
+    let there = both (leb (firstBody (heldIn s)) (length s)) _ e in
+    let rest = both (leb (heldIn s) (first (heldIn s) (badEntry s))) _ (there .1) in (
       leb-true (firstBody (heldIn s)) (length s) (there .0),
-      each-passes (heldIn s) (badEntry s) (rest .0),
+      none-found (heldIn s) (badEntry s) (rest .0),
       eqb-true (startOf s (heldIn s)) (length s) (rest .1),
     )
 
@@ -80,7 +80,7 @@ starts-inside : (s : List ℕ) → firstBody (heldIn s) ≤ length s → ((t : �
 unfolding startOf
 starts-inside s h fine zero l = h
 starts-inside s h fine (suc t) l =
-    body-inside (blocksIn s) (countIn s t) (startOf s t) s (starts-inside s h fine t (omega arith)) (entry-told s t (fine t l) .3)
+    body-inside (blocksIn s) (countIn s t) (startOf s t) s (starts-inside s h fine t (omega arith)) (entry-told s t (fine t l) .2)
 
 -- What bytes that pass are
 
@@ -107,7 +107,7 @@ module _ (s : List ℕ) (good : layoutChecks s ≡ result []) where
   pub k-some : 0 < kIn s
   k-some = shape-good (kIn s) (nIn s) shape-passed .0
 
-  pub k-few : kIn s ≤ nIn s
+  k-few : kIn s ≤ nIn s
   k-few = shape-good (kIn s) (nIn s) shape-passed .1
 
   pub n-limited : nIn s ≤ longest
@@ -122,39 +122,33 @@ module _ (s : List ℕ) (good : layoutChecks s ≡ result []) where
   pub bodies-end : startOf s (heldIn s) ≡ length s
   bodies-end = rest-told s (tests-passed s good .2) .2
 
-  pub start-inside : (t : ℕ) → t ≤ heldIn s → startOf s t ≤ length s
+  start-inside : (t : ℕ) → t ≤ heldIn s → startOf s t ≤ length s
   start-inside = starts-inside s table-inside (rest-told s (tests-passed s good .2) .1)
 
   module _ (t : ℕ) (less : t < heldIn s) where
-    pub entry-passed : badEntry s t ≡ false
+    entry-passed : badEntry s t ≡ false
     entry-passed = rest-told s (tests-passed s good .2) .1 t less
 
     pub entry-there : entryAt t + entrySize ≤ length s
     entry-there = entry-inside (heldIn s) t s less table-inside
 
-    pub position-rises : least (positionIn s) t ≤ positionIn s t
-    position-rises = entry-told s t entry-passed .0
-
     pub position-below : positionIn s t < nIn s
-    position-below = entry-told s t entry-passed .1
+    position-below = entry-told s t entry-passed .0 .1
 
     pub offset-is-start : offsetIn s t ≡ startOf s t
-    offset-is-start = entry-told s t entry-passed .2
+    offset-is-start = entry-told s t entry-passed .1
 
     pub body-passed : bodyGood (blocksIn s) (countIn s t) (drop (startOf s t) s) ≡ true
-    body-passed = entry-told s t entry-passed .3
-
-    pub body-there : startOf s t + bodySize (blocksIn s) (countIn s t) ≤ length s
-    body-there = body-inside (blocksIn s) (countIn s t) (startOf s t) s (start-inside t (omega arith)) body-passed
+    body-passed = entry-told s t entry-passed .2
 
     pub offset-inside : offsetIn s t ≤ length s
     offset-inside = omega (arith, offset-is-start, start-inside t (omega arith))
 
-    pub list-passed : rises (blocksIn s) (countIn s t) (listAt (drop (startOf s t) s)) ≡ true
-    list-passed = body-told (blocksIn s) (countIn s t) (drop (startOf s t) s) body-passed .1
+  pub positions-rise : rises (nIn s) (heldIn s) (positionIn s) ≡ true
+  positions-rise = in-order-rises (nIn s) (heldIn s) (positionIn s) (λ t less. entry-told s t (entry-passed t less) .0)
 
   pub position-after : (i j : ℕ) → i < j → j < heldIn s → positionIn s i < positionIn s j
-  position-after = rising (positionIn s) (heldIn s) position-rises
+  position-after = rising-apart (nIn s) (heldIn s) (positionIn s) positions-rise
 
   pub held-few : heldIn s ≤ nIn s
-  held-few = few (positionIn s) (heldIn s) (nIn s) position-rises position-below
+  held-few = rising-count (nIn s) (heldIn s) (positionIn s) positions-rise

@@ -1,21 +1,18 @@
--- What it says that numbers rise strictly, each below a limit.
+-- What a search of every index says and tells, and what it says that numbers rise strictly, each below a limit.
 -- Assumes nothing.
-use mathlib.Core.Path.{_≡_, ap}
+use mathlib.Core.Path.{_≡_, refl, ap, _∙_}
 use mathlib.Core.Bool.{Bool, true, false}
-use Prim.Native.Nat.{ℕ, zero, suc, _<_, _≤_, zero-le}
+use Prim.Native.Nat.{ℕ, zero, suc, _+_, _<_, _≤_, zero-le}
 use native.Mathlib.Nat.{not-suc-le-zero}
 use native.Mathlib.Decide.{decLt}
+use native.Mathlib.Numerals.{add-one}
 use native.Mathlib.Omega.{arith}
 use borrow.Author.Tests.{lt-ltb, le-ltb, le-leb, lt-leb, ltb-false, leb-false, leb-true}
 use lib.Dec.{ltb, leb}
 use Rattle.field.specs.First.{first}
-use Rattle.field.proofs.First.{first-none, first-before}
+use Rattle.field.proofs.First.{first-here, first-none, first-before}
 use Rattle.field.proofs.Checks.{or-false}
 use Rattle.layout.specs.Rising.{least, outOfOrder, rises}
-
--- the number at index j is in order
-abbrev pub InOrder : ℕ → (ℕ → ℕ) → ℕ → Type 0
-InOrder limit f j = (least f j ≤ f j) × (f j < limit)
 
 -- a search that passed every index, and one that found nothing
 
@@ -32,6 +29,20 @@ some-found n test j h here =
       | no more ↦ absurd (let z : _≡_ {A = ℕ} 0 1 = cc (here, first-before n test j (omega arith)) in omega arith)
     ]
 
+-- the same for one that counts up and is at index i
+
+pub one-bad : (n i : ℕ) (test : ℕ → Bool) → i < n → ((k : ℕ) → k < i → test k ≡ false) → test i ≡ true → leb n (first n test) ≡ false
+one-bad n i test h before here = ap (leb n) (first-here n i test h before here) ∙ lt-leb n i h
+
+pub none-bad : (n i : ℕ) (test : ℕ → Bool) → i ≤ n → n ≤ i → ((k : ℕ) → k < i → test k ≡ false) → leb n (first n test) ≡ true
+none-bad n i test h l before = found-none n test (λ k less. before k (omega arith))
+
+-- The test of one number
+
+-- the number at index j is in order
+abbrev pub InOrder : ℕ → (ℕ → ℕ) → ℕ → Type 0
+InOrder limit f j = (least f j ≤ f j) × (f j < limit)
+
 pub in-order : (limit : ℕ) (f : ℕ → ℕ) (j : ℕ) → outOfOrder limit f j ≡ false → InOrder limit f j
 unfolding outOfOrder
 in-order limit f j e =
@@ -41,6 +52,30 @@ in-order limit f j e =
 pub not-out : (limit : ℕ) (f : ℕ → ℕ) (j : ℕ) → InOrder limit f j → outOfOrder limit f j ≡ false
 unfolding outOfOrder
 not-out limit f j h = rw (le-ltb (f j) (least f j) (h .0), lt-leb limit (f j) (h .1))
+
+-- the same with the number and the least that it may be as the code has them
+
+pub least-first : (f : ℕ → ℕ) → 0 ≡ least f 0
+unfolding least
+least-first f = refl
+
+pub least-next : (f : ℕ → ℕ) (j x : ℕ) → x ≡ f j → x + 1 ≡ least f (j + 1)
+unfolding least
+least-next f j x e = simp add-one (ap suc e)
+
+module _ (limit : ℕ) (f : ℕ → ℕ) (j low x : ℕ) (bound : low ≡ least f j) (is : x ≡ f j) where
+  pub too-low : x < low → outOfOrder limit f j ≡ true
+  unfolding outOfOrder
+  too-low h = rw (← bound, ← is) (simp (lt-ltb x low h))
+
+  pub too-high : low ≤ x → limit ≤ x → outOfOrder limit f j ≡ true
+  unfolding outOfOrder
+  too-high h l = rw (← bound, ← is) (simp (le-ltb x low h, le-leb limit x l))
+
+  pub between : low ≤ x → x < limit → outOfOrder limit f j ≡ false
+  between h l = not-out limit f j (omega arith, omega arith)
+
+-- Numbers that are all in order
 
 module _ (limit count : ℕ) (f : ℕ → ℕ) where
   pub rises-in-order : rises limit count f ≡ true → (j : ℕ) → j < count → InOrder limit f j
@@ -52,7 +87,7 @@ module _ (limit count : ℕ) (f : ℕ → ℕ) where
   in-order-rises each = found-none count (outOfOrder limit f) (λ j h. not-out limit f j (each j h))
 
   -- a number is no less than its index
-  pub rising-index : rises limit count f ≡ true → (j : ℕ) → j < count → j ≤ f j
+  rising-index : rises limit count f ≡ true → (j : ℕ) → j < count → j ≤ f j
   unfolding least
   rising-index up zero h = zero-le
   rising-index up (suc j) h = omega (arith, rising-index up j (omega arith), rises-in-order up (suc j) h .0)

@@ -36,13 +36,13 @@ each-grown : (P : ℕ → Type 0) (t : Bool) (o : List ℕ) (b : ℕ) → Each P
 each-grown P true o b each new = each-append P o (b ∷ []) each (each-one P b (new refl))
 each-grown P false o b each new = each-append P o [] each (λ i h. absurd (not-suc-le-zero h))
 
-pub overflow-is : (e : ℕ → ℕ) (B : ℕ) → Each (λ b. e b ≡ 65536) (overflows e B)
+overflow-is : (e : ℕ → ℕ) (B : ℕ) → Each (λ b. e b ≡ 65536) (overflows e B)
 unfolding overflows
 overflow-is e zero = λ i h. absurd (not-suc-le-zero h)
 overflow-is e (suc b) =
     each-grown (λ x. e x ≡ 65536) (eqb (e b) 65536) (overflows e b) b (overflow-is e b) (eqb-true (e b) 65536)
 
-pub overflow-lt : (e : ℕ → ℕ) (B : ℕ) → Each (_< B) (overflows e B)
+overflow-lt : (e : ℕ → ℕ) (B : ℕ) → Each (_< B) (overflows e B)
 unfolding overflows
 overflow-lt e zero = λ i h. absurd (not-suc-le-zero h)
 overflow-lt e (suc b) =
@@ -66,7 +66,7 @@ unfolding overflows
 rise-overflows e zero = λ j h. absurd (not-suc-le-zero h)
 rise-overflows e (suc b) = rise-grown (eqb (e b) 65536) (overflows e b) b (overflow-lt e b) (rise-overflows e b)
 
-pub overflows-rise : (e : ℕ → ℕ) (B : ℕ) → rises B (countOf B e) (λ j. getD (overflows e B) j 0) ≡ true
+overflows-rise : (e : ℕ → ℕ) (B : ℕ) → rises B (countOf B e) (λ j. getD (overflows e B) j 0) ≡ true
 unfolding countOf least
 overflows-rise e B = in-order-rises B (length (overflows e B)) (λ j. getD (overflows e B) j 0) each
   where
@@ -77,26 +77,7 @@ overflows-rise e B = in-order-rises B (length (overflows e B)) (λ j. getD (over
 pub overflow-count : (e : ℕ → ℕ) (B : ℕ) → countOf B e ≤ B
 overflow-count e B = rising-count B (countOf B e) _ (overflows-rise e B)
 
--- a number stands in a list
-abbrev pub In : ℕ → List ℕ → Type 0
-In x o = (j : ℕ) × (j < length o) × (getD o j 0 ≡ x)
-
-in-front : (x : ℕ) (o p : List ℕ) → In x o → In x (o ++ p)
-in-front x o p here = (here .0, omega (arith, length-append o p), List·getD-append o p 0 (here .0) (here .1) ∙ here .2)
-
-in-last : (x : ℕ) (o : List ℕ) → In x (o ++ (x ∷ []))
-in-last x o = (length o, omega (arith, length-append o (x ∷ [])), getD-at o x [] 0 (length o) refl)
-
-pub overflow-in : (e : ℕ → ℕ) (B b : ℕ) → b < B → e b ≡ 65536 → In b (overflows e B)
-unfolding overflows
-overflow-in e zero b h over = absurd (not-suc-le-zero h)
-overflow-in e (suc B) b h over =
-    elim (decLt b B) [
-      | yes less ↦ in-front b (overflows e B) _ (overflow-in e B b less over)
-      | no more ↦ let last : b ≡ B = omega arith in rw (← last, eq-eqb (e b) 65536 over) (in-last b (overflows e b))
-    ]
-
--- it stands behind those of the blocks before it
+-- a block that overflows stands there, behind those of the blocks before it
 pub overflow-place : (e : ℕ → ℕ) (B b : ℕ) → b < B → e b ≡ 65536 → (countOf b e < countOf B e) × (getD (overflows e B) (countOf b e) 0 ≡ b)
 unfolding countOf overflows
 overflow-place e zero b h over = absurd (not-suc-le-zero h)
@@ -124,7 +105,7 @@ good-parts B c s good =
     let parts = both (leb (bodySize B c) (length s)) (rises B c (listAt s)) good in
     (leb-true (bodySize B c) (length s) (parts .0), parts .1)
 
-pub parts-good : (B c : ℕ) (s : List ℕ) → bodySize B c ≤ length s → rises B c (listAt s) ≡ true → bodyGood B c s ≡ true
+parts-good : (B c : ℕ) (s : List ℕ) → bodySize B c ≤ length s → rises B c (listAt s) ≡ true → bodyGood B c s ≡ true
 unfolding bodyGood
 parts-good B c s long up = rw (le-leb (bodySize B c) (length s) long) up
 
@@ -167,13 +148,13 @@ body-bytes B e =
     bytes-append (inBytes list) (inBytes words) (in-bytes-bytes list) (in-bytes-bytes words)
 
 module _ (B : ℕ) (e : ℕ → ℕ) (behind : List ℕ) (few : B ≤ mostBlocks) (symbol : (b : ℕ) → b < B → e b < 65537) where
-  pub list-at : (j : ℕ) → j < countOf B e → listAt (bodyOf B e ++ behind) j ≡ getD (overflows e B) j 0
+  list-at : (j : ℕ) → j < countOf B e → listAt (bodyOf B e ++ behind) j ≡ getD (overflows e B) j 0
   unfolding bodyOf countOf listAt mostBlocks
   list-at j h =
       rw (append-assoc (inBytes (overflows e B)) (inBytes (tab B (λ b. wordOf (e b)))) behind)
       (in-bytes-at (overflows e B) _ j h (omega (arith, overflow-lt e B j h)))
 
-  pub word-at : (b : ℕ) → b < B → twoAt (bodyOf B e ++ behind) (2 * countOf B e + 2 * b) ≡ wordOf (e b)
+  word-at : (b : ℕ) → b < B → twoAt (bodyOf B e ++ behind) (2 * countOf B e + 2 * b) ≡ wordOf (e b)
   unfolding bodyOf countOf
   word-at b h =
       let words = tab B (λ b. wordOf (e b)) in
@@ -188,15 +169,15 @@ module _ (B : ℕ) (e : ℕ → ℕ) (behind : List ℕ) (few : B ≤ mostBlocks
       parts-good B (countOf B e) (bodyOf B e ++ behind) (omega (arith, length-append (bodyOf B e) behind, body-long B e))
       (rises-same B (countOf B e) _ _ (λ j h. sym (list-at j h)) (overflows-rise e B))
 
-  pub body-symbols : (b : ℕ) → b < B → symbolIn (countOf B e) (bodyOf B e ++ behind) b ≡ e b
+  body-symbols : (b : ℕ) → b < B → symbolIn (countOf B e) (bodyOf B e ++ behind) b ≡ e b
   unfolding symbolIn countOf wordOf
   body-symbols b h = go (eqb (e b) 65536) refl
     where
       go : (t : Bool) → eqb (e b) 65536 ≡ t → symbolIn (countOf B e) (bodyOf B e ++ behind) b ≡ e b
       go true is =
           let over = eqb-true (e b) 65536 is in
-          let here = overflow-in e B b h over in
-          rw (listed-true (countOf B e) (bodyOf B e ++ behind) b (here .0) (here .1) (list-at (here .0) (here .1) ∙ here .2)) (sym over)
+          let here = overflow-place e B b h over in
+          rw (listed-true (countOf B e) (bodyOf B e ++ behind) b (countOf b e) (here .0) (list-at (countOf b e) (here .0) ∙ here .1)) (sym over)
       go false is =
           rw (listed-false (countOf B e) (bodyOf B e ++ behind) b (λ j l same. eqb-false (e b) 65536 is (ap e (sym same ∙ list-at j l) ∙ overflow-is e B j l)))
           (word-at b h ∙ rw is)

@@ -7,7 +7,14 @@ use Rattle.field.specs.Leaves.{Leaves, left}
 use Rattle.field.specs.Refusals.{Answer, result, refused, numberOf, placeOf, toldOutcome}
 use Rattle.field.specs.declared.refusal.Outcome.{Outcome}
 use Rattle.field.specs.declared.refusal.Refusal.{Refusal}
-use Rattle.sulmirejo.specs.Face.{Returned, status-number, returned, with-point, pointReturned, with-lists, listsReturned}
+use Rattle.layout.specs.Facts.{toldFacts, toldEntry}
+use Rattle.layout.specs.declared.facts.Entry.{Entry}
+use Rattle.layout.specs.declared.facts.EntryAnswer.the-variants as E
+use Rattle.layout.specs.declared.facts.Facts.{Facts}
+use Rattle.layout.specs.declared.facts.FactsAnswer.the-variants as F
+use Rattle.bundle.specs.Answers.{toldLength}
+use Rattle.bundle.specs.declared.answer.LengthAnswer.{LengthAnswer}
+use Rattle.sulmirejo.specs.Face.{Returned, status-number, returned, returnedNumber, with-point, pointReturned, with-lists, listsReturned, listsReturnedNumber, with-facts, factsReturned, with-entry, entryReturned}
 
 pub refused-returned : (x : Refusal) (s p : ℕ) → s ≡ numberOf x → p ≡ placeOf x → status-number s p ≡ returned (refused x)
 refused-returned x s p number place = ap₂ status-number number place
@@ -25,3 +32,31 @@ point-refused a x before s p is told =
 pub lists-told : (it : Leaves) (o : Outcome) (l w : List ℕ) (s p : ℕ) → left (toldOutcome o) l w ≡ it
     → status-number s p ≡ returned (toldOutcome o) → with-lists (status-number s p) l w ≡ listsReturned it
 lists-told it o l w s p is told = ap (λ (r : Returned). with-lists r l w) told ∙ ap listsReturned is
+
+pub lists-told-number : (it : Leaves) (a : LengthAnswer) (l w : List ℕ) (s p : ℕ) → left (toldLength a) l w ≡ it
+    → status-number s p ≡ returnedNumber (toldLength a) → with-lists (status-number s p) l w ≡ listsReturnedNumber it
+lists-told-number it a l w s p is told = ap (λ (r : Returned). with-lists r l w) told ∙ ap listsReturnedNumber is
+
+-- k, n, L, m and B are what the numbers held before
+module _ (a : Answer) (k n L m B s p : ℕ) where
+  pub facts-found : (f : Facts) → toldFacts (F.Facts f) ≡ a → status-number s p ≡ returned (result [])
+      → with-facts (status-number s p) (f .k) (f .n) (f .length) (f .held) (f .blocks) ≡ factsReturned a k n L m B
+  facts-found f is told =
+      ap (λ (r : Returned). with-facts r (f .k) (f .n) (f .length) (f .held) (f .blocks)) told
+      ∙ ap (λ (a : Answer). factsReturned a k n L m B) is
+
+  pub facts-refused : (x : Refusal) → refused x ≡ a → status-number s p ≡ returned (refused x)
+      → with-facts (status-number s p) k n L m B ≡ factsReturned a k n L m B
+  facts-refused x is told =
+      ap (λ (r : Returned). with-facts r k n L m B) told ∙ ap (λ (a : Answer). factsReturned a k n L m B) is
+
+-- t, o and c are what the numbers held before
+module _ (a : Answer) (t o c s p : ℕ) where
+  pub entry-found : (e : Entry) → toldEntry (E.Entry e) ≡ a → status-number s p ≡ returned (result [])
+      → with-entry (status-number s p) (e .position) (e .offset) (e .count) ≡ entryReturned a t o c
+  entry-found e is told =
+      ap (λ (r : Returned). with-entry r (e .position) (e .offset) (e .count)) told ∙ ap (λ (a : Answer). entryReturned a t o c) is
+
+  pub entry-refused : (x : Refusal) → refused x ≡ a → status-number s p ≡ returned (refused x)
+      → with-entry (status-number s p) t o c ≡ entryReturned a t o c
+  entry-refused x is told = ap (λ (r : Returned). with-entry r t o c) told ∙ ap (λ (a : Answer). entryReturned a t o c) is

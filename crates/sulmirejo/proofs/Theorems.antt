@@ -1,7 +1,7 @@
 -- The proofs of specs/Theorems.antt, each under its name there in small letters.
 -- Assumes nothing.
 use mathlib.Core.Path.{sym, _∙_}
-use Rattle.sulmirejo.specs.Theorems.{PointSettled, TransformSettled, InverseSettled, EncodeSettled, DecodeSettled}
+use Rattle.sulmirejo.specs.Theorems.{PointSettled, TransformSettled, InverseSettled, EncodeSettled, DecodeSettled, WriteSettled, ReadSettled, FactsSettled, EntrySettled}
 
 pub point-settled : PointSettled
 point-settled n i before r s p q = p ∙ sym q
@@ -17,3 +17,15 @@ encode-settled k n message out work r s p q = p ∙ sym q
 
 pub decode-settled : DecodeSettled
 decode-settled k n positions values out work r s p q = p ∙ sym q
+
+pub write-settled : WriteSettled
+write-settled k n file out work r s p q = p ∙ sym q
+
+pub read-settled : ReadSettled
+read-settled bundle out work r s p q = p ∙ sym q
+
+pub facts-settled : FactsSettled
+facts-settled bundle k n length held blocks r s p q = p ∙ sym q
+
+pub entry-settled : EntrySettled
+entry-settled bundle index position offset count r s p q = p ∙ sym q

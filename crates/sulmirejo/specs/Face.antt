@@ -1,4 +1,4 @@
--- What a C caller finds: the returned status is 0 or the refusal's number, and `number` holds the refusal's place, else 0.
+-- What a C caller finds: the returned status is 0 or the refusal's number, and `number` holds the refusal's place, else 0 or the length told.
 use mathlib.Core.List.{List}
 use Prim.Native.Nat.{ℕ}
 use lib.ListN.{getD}
@@ -15,6 +15,11 @@ status-number status number = record { status = status; number = number }
 abbrev pub returned : Answer → Returned
 returned (result vs) = status-number 0 0
 returned (refusal n i) = status-number n i
+
+-- where the result is one number, `number` takes it
+abbrev pub returnedNumber : Answer → Returned
+returnedNumber (result vs) = status-number 0 (getD vs 0 0)
+returnedNumber (refusal n i) = status-number n i
 
 -- a point: it is written on success alone
 pub record PointReturned : Type 0 where
@@ -42,3 +47,44 @@ with-lists r list work = record { status = r .status; number = r .number; list =
 
 abbrev pub listsReturned : Leaves → ListsReturned
 listsReturned it = with-lists (returned (it .answer)) (it .list) (it .work)
+
+-- the same where the result told is one number
+abbrev pub listsReturnedNumber : Leaves → ListsReturned
+listsReturnedNumber it = with-lists (returnedNumber (it .answer)) (it .list) (it .work)
+
+-- what a bundle's header says: it is written on success alone
+pub record FactsReturned : Type 0 where
+  pub status : ℕ
+  pub number : ℕ
+  pub k : ℕ
+  pub n : ℕ
+  pub length : ℕ
+  pub held : ℕ
+  pub blocks : ℕ
+
+abbrev pub with-facts : Returned → ℕ → ℕ → ℕ → ℕ → ℕ → FactsReturned
+with-facts r k n length held blocks =
+    record { status = r .status; number = r .number; k = k; n = n; length = length; held = held; blocks = blocks }
+
+-- the answer told, and what stands in the five where they held k, n, length, held and blocks
+abbrev pub factsReturned : Answer → ℕ → ℕ → ℕ → ℕ → ℕ → FactsReturned
+factsReturned (result vs) k n length held blocks =
+    with-facts (returned (result vs)) (getD vs 0 0) (getD vs 1 0) (getD vs 2 0) (getD vs 3 0) (getD vs 4 0)
+factsReturned (refusal m i) k n length held blocks = with-facts (returned (refusal m i)) k n length held blocks
+
+-- what a bundle's table says of one shadow: it is written on success alone
+pub record EntryReturned : Type 0 where
+  pub status : ℕ
+  pub number : ℕ
+  pub position : ℕ
+  pub offset : ℕ
+  pub count : ℕ
+
+abbrev pub with-entry : Returned → ℕ → ℕ → ℕ → EntryReturned
+with-entry r position offset count =
+    record { status = r .status; number = r .number; position = position; offset = offset; count = count }
+
+-- the answer told, and what stands in the three where they held position, offset and count
+abbrev pub entryReturned : Answer → ℕ → ℕ → ℕ → EntryReturned
+entryReturned (result vs) position offset count = with-entry (returned (result vs)) (getD vs 0 0) (getD vs 1 0) (getD vs 2 0)
+entryReturned (refusal m i) position offset count = with-entry (returned (refusal m i)) position offset count

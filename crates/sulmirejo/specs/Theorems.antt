@@ -6,9 +6,11 @@ use Rattle.field.specs.Leaves.{Leaves}
 use Rattle.field.specs.Points.{pointAnswer}
 use Rattle.transform.specs.Calls.{transformLeaves, inverseLeaves}
 use Rattle.block.specs.Calls.{encodeLeaves, decodeLeaves}
-use Rattle.sulmirejo.specs.Face.{PointReturned, pointReturned, ListsReturned, listsReturned}
+use Rattle.layout.specs.Facts.{factsAnswer, entryAnswer}
+use Rattle.bundle.specs.Calls.{writeLeaves, readLeaves}
+use Rattle.sulmirejo.specs.Face.{PointReturned, pointReturned, ListsReturned, listsReturned, listsReturnedNumber, FactsReturned, factsReturned, EntryReturned, entryReturned}
 
--- Two outcomes of a call are equal: the status, the number, the point, every cell of the lent lists
+-- Two outcomes of a call are equal: the status, the number, the point, every number written, every cell of the lent lists
 
 abbrev pub PointSettled : Type 0
 PointSettled =
@@ -30,3 +32,25 @@ EncodeSettled = (k n : ℕ) (message out work : List ℕ) → Settled (encodeLea
 
 abbrev pub DecodeSettled : Type 0
 DecodeSettled = (k n : ℕ) (positions values out work : List ℕ) → Settled (decodeLeaves k n positions values out work)
+
+-- two outcomes of a call that leaves lists and tells a length
+abbrev pub NumberSettled : Leaves → Type 0
+NumberSettled it = (r s : ListsReturned) → r ≡ listsReturnedNumber it → s ≡ listsReturnedNumber it → r ≡ s
+
+abbrev pub WriteSettled : Type 0
+WriteSettled = (k n : ℕ) (file out work : List ℕ) → NumberSettled (writeLeaves k n file out work)
+
+abbrev pub ReadSettled : Type 0
+ReadSettled = (bundle out work : List ℕ) → NumberSettled (readLeaves bundle out work)
+
+abbrev pub FactsSettled : Type 0
+FactsSettled =
+    (bundle : List ℕ) (k n length held blocks : ℕ) (r s : FactsReturned)
+    → r ≡ factsReturned (factsAnswer bundle) k n length held blocks → s ≡ factsReturned (factsAnswer bundle) k n length held blocks
+    → r ≡ s
+
+abbrev pub EntrySettled : Type 0
+EntrySettled =
+    (bundle : List ℕ) (index position offset count : ℕ) (r s : EntryReturned)
+    → r ≡ entryReturned (entryAnswer bundle index) position offset count
+    → s ≡ entryReturned (entryAnswer bundle index) position offset count → r ≡ s

@@ -1,5 +1,7 @@
 // The face: the functions that C calls. Each hands its arguments to a proved function and turns the answer into number and place; nothing else
 // is done here.
+mod bundles;
+
 use field::Outcome;
 use field::PointAnswer;
 use field::Position;

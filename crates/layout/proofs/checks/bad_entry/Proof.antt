@@ -11,7 +11,7 @@ use lib.Seq.{take-all}
 use Rattle.layout.specs.Fields.{positionIn}
 use Rattle.layout.specs.Storage.{bodyGood}
 use Rattle.layout.proofs.Entries.{bad-order, bad-offset, bad-body}
-use Rattle.layout.proofs.Ordering.{too-low, too-high, in-order}
+use Rattle.layout.proofs.RisingLaws.{too-low, too-high, between}
 use Rattle.layout.proofs.checks.bad_entry.Statement.{statement}
 use Rattle.layout.proofs.checks.bad_entry.Tie as tie
 
@@ -45,7 +45,7 @@ bad-entry-spec =
     let low = start .pre .1 .1 .0 in
     let position = c .before .before .before .before .position-in .ensures .0 in
     sym (bad-offset s (start .args .t) (start .args .n) (start .pre .1 .0 .0) _ _
-    (in-order (start .args .n) (positionIn s) (start .args .t) _ _ low position (c .before .before .before .if1 .left) (c .before .before .if2 .left))
+    (between (start .args .n) (positionIn s) (start .args .t) _ _ low position (c .before .before .before .if1 .left) (c .before .before .if2 .left))
     (c .before .offset-in .ensures .0) (start .pre .1 .1 .1) (c .if3 .taken)))
     (λ c. search needs)
     (λ c. search needs)
@@ -60,5 +60,5 @@ bad-entry-spec =
     ap not (c .body-good .ensures)
     ∙ ap (λ (part : List ℕ). not (bodyGood (start .args .blocks) (c .before .count-in .result) part)) (to-the-end (start .args .at) s)
     ∙ sym (bad-body s (start .args .t) (start .args .n) (start .pre .1 .0 .0) _ _
-    (in-order (start .args .n) (positionIn s) (start .args .t) _ _ low position (c .before .before .before .before .before .before .if1 .left) (c .before .before .before .before .before .if2 .left))
+    (between (start .args .n) (positionIn s) (start .args .t) _ _ low position (c .before .before .before .before .before .before .if1 .left) (c .before .before .before .before .before .if2 .left))
     (c .before .before .before .before .offset-in .ensures .0) (start .pre .1 .1 .1) _ _ (c .before .before .before .if3 .left) (start .pre .1 .0 .1) (c .before .count-in .ensures .0))))

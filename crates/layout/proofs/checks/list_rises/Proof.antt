@@ -7,8 +7,7 @@ use borrow.Author.Count.{below-none, below-more}
 use borrow.Author.Needs.{needs}
 use Rattle.layout.specs.Rising.{least, outOfOrder, rises}
 use Rattle.layout.specs.Storage.{listAt}
-use Rattle.layout.proofs.Ordering.{least-first, least-next, too-low, too-high, in-order}
-use Rattle.layout.proofs.Searching.{one-bad, none-bad}
+use Rattle.layout.proofs.RisingLaws.{one-bad, none-bad, least-first, least-next, too-low, too-high, between}
 use Rattle.layout.proofs.checks.list_rises.Statement.{statement}
 use Rattle.layout.proofs.checks.list_rises.Tie as tie
 
@@ -47,7 +46,7 @@ list-rises-spec =
       search needs,
       least-next f (at .loop .j) _ here,
       below-more _ _ (at .loop .inv .2)
-          (in-order (at .before .before .args .limit) f (at .loop .j) _ _ (at .loop .inv .1) here (c .before .if1 .left) (c .if2 .left)),
+          (between (at .before .before .args .limit) f (at .loop .j) _ _ (at .loop .inv .1) here (c .before .if1 .left) (c .if2 .left)),
     ))
     (λ c.
     let l = c .before .loop in

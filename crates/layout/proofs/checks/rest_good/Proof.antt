@@ -14,7 +14,7 @@ use Rattle.layout.specs.Layout.{startOf, badEntry}
 use Rattle.layout.specs.Rising.{least}
 use Rattle.layout.specs.Shadows.{headerSize, entrySize, firstBody}
 use Rattle.layout.proofs.Entries.{entry-inside, start-first, start-step, end-inside, rest-short, rest-bad, rest-is}
-use Rattle.layout.proofs.Ordering.{least-first, least-next}
+use Rattle.layout.proofs.RisingLaws.{least-first, least-next}
 use Rattle.layout.proofs.checks.rest_good.Statement.{statement}
 use Rattle.layout.proofs.checks.rest_good.Tie as tie
 

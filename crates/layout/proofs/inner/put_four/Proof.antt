@@ -1,7 +1,7 @@
 -- `layout::inner::put_four` meets its contract: two numbers of two bytes, one behind the other, are put at once.
 -- Assumes nothing.
 use borrow.Author.Needs.{needs}
-use Rattle.layout.proofs.Putting.{puts-four}
+use Rattle.layout.proofs.PutLaws.{puts-four}
 use Rattle.layout.proofs.inner.put_four.Statement.{statement}
 use Rattle.layout.proofs.inner.put_four.Tie as tie
 

@@ -1,7 +1,7 @@
 -- `layout::inner::put_two` meets its contract: two stores put the number.
 -- Assumes nothing.
 use borrow.Author.Needs.{needs}
-use Rattle.layout.proofs.Putting.{stores-two}
+use Rattle.layout.proofs.PutLaws.{stores-two}
 use Rattle.layout.proofs.inner.put_two.Statement.{statement}
 use Rattle.layout.proofs.inner.put_two.Tie as tie
 

@@ -12,8 +12,9 @@
  * A symbol is a whole number from 0 to 65536, kept in a uint32_t. Counts are counts of elements and not of bytes.
  *
  * Every call returns 0 (SULMIREJO_OK), or the number of the refusal. Its last argument, `number`, is always written: on a refusal with its
- * place, which is 0 unless a place is stated below, and on success with 0. The checks of a call are made in the order of their numbers, each
- * over the whole list before the next, and the first that fails is the answer.
+ * place, which is 0 unless a place is stated below, and on success with 0 unless a length is stated below. The checks of a call are made in
+ * the order of their numbers, each over the whole list before the next, and the first that fails is the answer; calls that are given a bundle
+ * make them in the order that is stated with sulmirejo_read.
  *
  *     uint32_t message[2] = {1, 2}, word[4] = {0}, back[2] = {0}, work[16] = {0};
  *     size_t number = 0;
@@ -38,7 +39,7 @@
 extern "C" {
 #endif
 
-/* The refusals. Those that no function below gives belong to the parts of the coder that are to come. */
+/* The refusals. Each function says below which of them it gives, and exactly when. */
 #define SULMIREJO_OK 0u
 #define SULMIREJO_SHAPE 1u    /* a size that cannot be */
 #define SULMIREJO_LENGTH 2u   /* lists whose lengths do not fit */
@@ -97,6 +98,56 @@ uint32_t sulmirejo_encode(size_t k, size_t n, const uint32_t *message, size_t me
  * output as they were. On any other refusal output and working space are as they were. */
 uint32_t sulmirejo_decode(size_t k, size_t n, const uint32_t *positions, size_t positions_len, const uint32_t *values, size_t values_len,
                           uint32_t *out, size_t out_len, uint32_t *work, size_t work_len, size_t *number);
+
+/* The bundle of a file: all n shadows of it, of which any k bring the file back. The file is taken as words of two bytes, most significant
+ * byte first, padded with zero bytes to whole blocks of 2*k bytes; B is their number, file_len / (2*k) rounded up, so 0 for an empty file.
+ * Shadow i holds symbol i of the code word of each block. All numbers of a bundle are most significant byte first:
+ *   - the header, 16 bytes: 46 4E 54 42, k (2 bytes), n (2), the file's length L (4), the number m of shadows held (2), two zero bytes;
+ *   - the table, m entries of 8 bytes: position i (2), overflow count c (2), offset of the body from the bundle's start (4);
+ *   - the bodies, in the table's order and without gaps, the first at 16 + 8*m, the last up to the bundle's end.
+ * Positions rise strictly and are below n. A body is c block numbers of 2 bytes, rising strictly and below B, those of the blocks whose symbol
+ * is 65536; then B words of 2 bytes, one for each block: the symbol, or 00 00 where it is 65536. The output is 16 + 8*n + 4*n*B bytes, however
+ * few of them the bundle takes, the working space 8*N numbers, N being the smallest power of two that is at least n, whatever they held.
+ *
+ * Refusals: SHAPE where k is 0 or above n, n above 4096, file_len above 1048576 or B above 65535; ROOM where out_len is below
+ * 16 + 8*n + 4*n*B or work_len below 8*N.
+ * Afterwards: on success *number is the bundle's length, the output's first *number bytes are the bundle and the later ones as they were,
+ * also those that the stated output has room for; the first 8*N numbers of the working space are zero and the later ones as they were. On a
+ * refusal output and working space are as they were. */
+uint32_t sulmirejo_write(size_t k, size_t n, const uint8_t *file, size_t file_len, uint8_t *out, size_t out_len, uint32_t *work,
+                         size_t work_len, size_t *number);
+
+/* The file of a bundle, which may hold any m of the n shadows, k or more: what stands above holds for it, but that the word of a listed block
+ * is not used and may be anything. All m shadows are compared, also where k of them would do: where at most m - k shadows are altered in a
+ * block's words, the answer is the file or a refusal, never another file. With m = k no such alteration can be seen. The output is L bytes,
+ * the working space 8*N numbers, N being the smallest power of two that is at least n, whatever they held.
+ *
+ * Refusals, in this order: FORM where bundle_len is below 16, the first four bytes are others or the last two of the header are not zero;
+ * SHAPE where k is 0 or above n, n above 4096, L above 1048576 or B above 65535; FORM for any other breach of the layout; ROOM where out_len
+ * is below L or work_len below 8*N; FEW where m is below k, also where L is 0; then block by block DISAGREE where no message fits all m
+ * symbols of the block, WORD where a symbol of its message is 65536, also in the padding, TAIL where a byte of the padding is not zero, each
+ * with the block as its place.
+ * Afterwards: on success *number is L, the output's first L bytes are the file and the later ones as they were, the first 8*N numbers of the
+ * working space are zero and the later ones as they were. On DISAGREE, WORD and TAIL the output's first L bytes and the first 8*N numbers of
+ * the working space are zero, the later ones as they were. On any other refusal output and working space are as they were. */
+uint32_t sulmirejo_read(const uint8_t *bundle, size_t bundle_len, uint8_t *out, size_t out_len, uint32_t *work, size_t work_len,
+                        size_t *number);
+
+/* What a bundle's header says: k, n, the file's length L, the number m of shadows held, and B, the number of blocks. The whole layout is
+ * tested, the symbols are not looked at.
+ *
+ * Refusals, in this order: FORM, SHAPE and FORM, exactly where sulmirejo_read gives them.
+ * Afterwards: on success *k, *n, *length, *held and *blocks hold these numbers, and *number 0. On a refusal the five are as they were. */
+uint32_t sulmirejo_facts(const uint8_t *bundle, size_t bundle_len, size_t *k, size_t *n, size_t *length, size_t *held, size_t *blocks,
+                         size_t *number);
+
+/* What entry `index` of a bundle's table says, counted from 0: the shadow's position, the offset of its body, its overflow count. The whole
+ * layout is tested.
+ *
+ * Refusals, in this order: FORM, SHAPE and FORM, exactly where sulmirejo_read gives them; POSITION, place 0, where index is m or more.
+ * Afterwards: on success *position, *offset and *count hold these numbers, and *number 0. On a refusal the three are as they were. */
+uint32_t sulmirejo_entry(const uint8_t *bundle, size_t bundle_len, size_t index, size_t *position, size_t *offset, size_t *count,
+                         size_t *number);
 
 #ifdef __cplusplus
 }

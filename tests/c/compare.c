@@ -47,27 +47,6 @@ static int has(const struct trial *trial, int fault)
     return trial->faults >> fault & 1;
 }
 
-/* A number from 0 to limit - 1. */
-static size_t below(size_t limit)
-{
-    return junk() % limit;
-}
-
-static size_t least(size_t a, size_t b)
-{
-    return a < b ? a : b;
-}
-
-/* The numbers from 0 to count - 1 in junk order. */
-static void shuffle(uint32_t *list, size_t count)
-{
-    for (size_t i = 0; i < count; i++) {
-        size_t other = below(i + 1);
-        list[i] = list[other];
-        list[other] = (uint32_t)i;
-    }
-}
-
 static void print_list(const char *name, struct lent *buffer)
 {
     printf("  %s, %zu:", name, buffer->room);

@@ -7,7 +7,7 @@
 #include <stdint.h>
 
 /* Document 01's numbers, written down again: a wrong number in the library's header would show. */
-enum { OK, SHAPE, LENGTH, ROOM, FEW, POSITION, REPEAT, VALUE, DISAGREE };
+enum { OK, SHAPE, LENGTH, ROOM, FEW, POSITION, REPEAT, VALUE, DISAGREE, WORD, TAIL, FORM };
 
 /* One block, for sizes and lists that are known to be good. */
 

@@ -6,11 +6,11 @@ use mathlib.Core.Bool.{Bool, true, false, cond, not}
 use mathlib.Core.List.{List, _++_}
 use mathlib.Core.Option.{some, none}
 use Prim.Native.Nat.{ℕ, _+_, _-_, _*_, _%_, _<_, _≤_}
-use native.Mathlib.Nat.{le-trans, lt-of-lt-of-le}
+use native.Mathlib.Nat.{le-trans}
 use native.Mathlib.Omega.{arith}
 use borrow.Author.Tests.{eq-eqb, ne-eqb}
 use lib.Dec.{ltb, leb, eqb}
-use lib.ListN.{length, getD, take, drop, set, replicate, length-take, length-drop, length-append}
+use lib.ListN.{length, getD, take, drop, set, replicate, length-drop, length-append}
 use lib.Seq.{length-take-le, getD-take, getD-drop, take-at, drop-at, take-take, drop-drop}
 use Rattle.field.specs.Points.{pointOf}
 use Rattle.field.specs.Size.{sizeOf}
@@ -20,7 +20,7 @@ use Rattle.field.proofs.Size.{size-enough}
 use Rattle.poly.specs.Value.{value}
 use Rattle.block.specs.Code.{symbolOf}
 use Rattle.block.specs.Decoding.{candidate, firstWrong, decodeOf}
-use Rattle.block.specs.Held.{Held, held}
+use Rattle.block.specs.Held.{held}
 use Rattle.block.specs.Meeting.{messageOf}
 use Rattle.block.specs.Newton.{withPoint}
 use Rattle.block.specs.Ready.{Ready}
@@ -64,7 +64,7 @@ same-later at i s t same le =
     ∙ sym (getD-drop at s (i - at) 0) ∙ ap (λ (l : List ℕ). getD l (i - at) 0) same ∙ getD-drop at t (i - at) 0
     ∙ ap (λ (z : ℕ). getD t z 0) {x = at + (i - at)} {y = i} (omega arith)
 
-pub held-same : (m n : ℕ) (s t : List ℕ) → drop (4 * sizeOf n) s ≡ drop (4 * sizeOf n) t → heldWithin m n s ≡ heldWithin m n t
+held-same : (m n : ℕ) (s t : List ℕ) → drop (4 * sizeOf n) s ≡ drop (4 * sizeOf n) t → heldWithin m n s ≡ heldWithin m n t
 unfolding positionsWithin valuesWithin
 held-same m n s t same =
     ap₂ (λ (p v : List ℕ). held (take m p) (take m v)) (same-behind (4 * sizeOf n) (6 * sizeOf n) s t same (omega arith)) same

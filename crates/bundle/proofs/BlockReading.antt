@@ -10,11 +10,11 @@ use native.Mathlib.Nat.{min-le-left}
 use native.Mathlib.Numerals.{add-one}
 use native.Mathlib.Omega.{arith}
 use borrow.Author.Tests.{ltb-false, eqb-false}
-use lib.Dec.{ltb, eqb}
-use lib.ListN.{length, getD, take, drop, replicate, length-append, length-take, length-drop, drop-of-length-le}
+use lib.Dec.{eqb}
+use lib.ListN.{length, getD, take, drop, length-append, length-take, drop-of-length-le}
 use lib.Seq.{length-take-le, take-at, take-all}
 use Rattle.field.specs.First.{first}
-use Rattle.field.specs.Leaves.{left, written, zeroed}
+use Rattle.field.specs.Leaves.{left}
 use Rattle.field.specs.Refusals.{Answer, result, refused, toldOutcome}
 use Rattle.field.specs.Size.{sizeOf}
 use Rattle.field.specs.Symbol.{Symbols}
@@ -29,20 +29,19 @@ use Rattle.poly.specs.Tab.{tab}
 use Rattle.block.specs.Decoding.{decodeOf}
 use Rattle.block.specs.Held.{held}
 use Rattle.block.specs.Meeting.{messageOf}
-use Rattle.block.specs.Message.{IsMessage}
 use Rattle.block.specs.Ready.{Ready}
 use Rattle.block.specs.Within.{positionsWithin, valuesWithin, heldWithin}
 use Rattle.block.proofs.Decoding.{decodes-fitting}
-use Rattle.block.proofs.HeldWithin.{same-later, same-behind, held-same}
+use Rattle.block.proofs.HeldWithin.{same-later, same-behind}
 use Rattle.block.proofs.Meeting.{message-is}
 use Rattle.layout.specs.Blocks.{blocksOf}
 use Rattle.layout.specs.Bytes.{Bytes, inBytes}
 use Rattle.layout.specs.Facts.{after}
-use Rattle.layout.specs.Fields.{kIn, nIn, lengthIn, heldIn, blocksIn, positionIn}
+use Rattle.layout.specs.Fields.{kIn, nIn, lengthIn, heldIn, blocksIn}
 use Rattle.layout.specs.Layout.{layoutChecks}
 use Rattle.layout.proofs.BytesLaws.{in-bytes-length}
 use Rattle.layout.proofs.Passing.{k-some}
-use Rattle.bundle.specs.Gathering.{cursorHeld, Laid}
+use Rattle.bundle.specs.Gathering.{Laid}
 use Rattle.bundle.specs.Reading.{some-meets, symbolHeld, heldAt, decodedAt, badWord, badTail, judged, blockAnswer, blocksAnswer, bytesOf, bytesBefore, fileIn}
 use Rattle.bundle.specs.Rooms.{workRoom}
 use Rattle.bundle.proofs.Gathered.{held-room}
@@ -66,7 +65,7 @@ module _ (k L b : ℕ) (message : List ℕ) where
   unfolding judged
   word-told bad = stops (Word b) _ bad
 
-  -- from is where the block begins in the file, and rest how many bytes of the file are left there
+  -- rest is how many bytes of the file are left where the block begins
   module _ (rest : ℕ) (is : rest ≡ L - 2 * (k * b)) (good : badWord message ≡ false) where
     pub tail-told : some-meets (λ x. not (eqb x 0)) (drop rest (inBytes message)) ≡ true → refused (Tail b) ≡ judged k L b (some message)
     unfolding judged badTail
@@ -123,10 +122,6 @@ bytes-laid k b from message file after long first inside is =
 
 -- One block
 
--- bytes, as the slice's elements are
-pub read-bytes : (s : List ℕ) → ((i : ℕ) → getD s i 0 < 256) → Bytes s
-read-bytes s each i h = each i
-
 -- the held symbols, as decoding finds them in the working space
 module _ (s : List ℕ) (b : ℕ) (cells : List ℕ) (bytes : Bytes s) (good : layoutChecks s ≡ result []) (enough : kIn s ≤ heldIn s) (laid : Laid s (suc b) cells) (values : valuesWithin (heldIn s) (nIn s) cells ≡ tab (heldIn s) (symbolHeld s b)) where
   held-there : heldWithin (heldIn s) (nIn s) cells ≡ heldAt s b
@@ -146,7 +141,7 @@ module _ (s : List ℕ) (b : ℕ) (cells : List ℕ) (bytes : Bytes s) (good : l
         (subst (λ (m : ℕ). Ready (kIn s) (nIn s) (heldWithin m (nIn s) cells) × (m ≤ sizeOf (nIn s)) × (length cells ≡ 8 * sizeOf (nIn s))) (sym third)
         (subst (Ready (kIn s) (nIn s)) (sym held-there) (ready s b bytes good enough), held-room s good, cells-long)))
 
-    -- decoded is what decoding found, now the cells afterwards
+    -- found is what decoding answered, now the cells afterwards
     module _ (now : List ℕ) (found : Bool) (decodes : decodeOf k n (heldWithin m n cells) ≡ cond found (some (messageOf (take k now))) none) where
       decoded : decodedAt s b ≡ cond found (some (messageOf (take k now))) none
       unfolding decodedAt
@@ -211,7 +206,7 @@ module _ (s : List ℕ) (good : layoutChecks s ≡ result []) where
   unfolding blocksAnswer
   next-left b h = ap (blocksAnswer s b) {x = blocksIn s - b} {y = suc (blocksIn s - suc b)} (omega arith)
 
-  pub answer-on : (b : ℕ) → b < blocksIn s → blocksAnswer s 0 (blocksIn s) ≡ blocksAnswer s b (blocksIn s - b) → blockAnswer s b ≡ result []
+  answer-on : (b : ℕ) → b < blocksIn s → blocksAnswer s 0 (blocksIn s) ≡ blocksAnswer s b (blocksIn s - b) → blockAnswer s b ≡ result []
       → blocksAnswer s 0 (blocksIn s) ≡ blocksAnswer s (b + 1) (blocksIn s - (b + 1))
   answer-on b h so-far taken =
       so-far ∙ next-left b h ∙ ap (λ (a : Answer). after a (blocksAnswer s (suc b) (blocksIn s - suc b))) taken

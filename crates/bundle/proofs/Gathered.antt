@@ -4,12 +4,12 @@
 use mathlib.Core.Path.{_≡_, subst, sym, ap, ap₂, _∙_}
 use mathlib.Core.Bool.{true}
 use mathlib.Core.List.{List, [], _++_}
-use Prim.Native.Nat.{ℕ, zero, suc, _+_, _*_, _-_, _<_, _≤_}
+use Prim.Native.Nat.{ℕ, suc, _+_, _*_, _-_, _<_, _≤_}
 use native.Mathlib.Decide.{decLt}
 use native.Mathlib.Nat.{le-trans}
 use native.Mathlib.Omega.{arith}
 use lib.ListN.{length, getD, take, drop, set, replicate, length-set, length-take, length-drop, length-append, length-replicate, getD-replicate, List·getD-append}
-use lib.Seq.{length-take-le, getD-set-same, getD-set-other, drop-set-lt, getD-drop, getD-take, take-at, drop-at, take-all}
+use lib.Seq.{length-take-le, getD-set-same, getD-set-other, drop-set-lt, getD-take, take-at, drop-at, take-all}
 use Rattle.field.specs.Refusals.{result}
 use Rattle.field.specs.Size.{sizeOf}
 use Rattle.field.proofs.Shape.{longest-le}
@@ -19,7 +19,7 @@ use Rattle.poly.proofs.Tab.{tab-length, tab-ext, tab-getD}
 use Rattle.block.specs.Within.{positionsWithin, valuesWithin}
 use Rattle.block.proofs.HeldWithin.{held-long, value-at}
 use Rattle.layout.specs.Fields.{nIn, heldIn, blocksIn, positionIn, countIn, offsetIn}
-use Rattle.layout.specs.Layout.{startOf, layoutChecks}
+use Rattle.layout.specs.Layout.{layoutChecks}
 use Rattle.layout.specs.Storage.{bodyGood}
 use Rattle.layout.proofs.Passing.{n-limited, held-few, offset-is-start, body-passed}
 use Rattle.bundle.specs.Gathering.{cursorHeld, Laid}

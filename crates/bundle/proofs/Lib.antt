@@ -1,3 +1,4 @@
+pub mod Searching
 pub mod Padding
 pub mod Messages
 pub mod Placing
@@ -16,7 +17,6 @@ pub mod Demands
 pub mod Worked
 pub mod Coders
 pub mod Theorems
-pub mod Searching
 pub mod Cursors
 pub mod MessageBytes
 pub mod Gathered

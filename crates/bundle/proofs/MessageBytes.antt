@@ -2,7 +2,7 @@
 -- Assumes nothing.
 use mathlib.Core.Path.{_≡_, refl, sym, ap, ap₂, _∙_}
 use mathlib.Core.Bool.{true, false, not}
-use mathlib.Core.List.{List, [], _∷_, _++_, append-nil}
+use mathlib.Core.List.{List, [], _∷_, _++_}
 use Prim.Native.Nat.{ℕ, zero, suc, _+_, _*_, _-_, _/_, _%_, _<_, _≤_}
 use native.Mathlib.Decide.{decLt}
 use native.Mathlib.Omega.{arith}
@@ -14,7 +14,6 @@ use Rattle.poly.specs.Tab.{tab}
 use Rattle.poly.proofs.Tab.{tab-ext, tab-getD}
 use Rattle.poly.proofs.Window.{window}
 use Rattle.layout.specs.Bytes.{two, inBytes}
-use Rattle.layout.proofs.BytesLaws.{in-bytes-length}
 use Rattle.bundle.specs.Reading.{some-meets}
 use Rattle.bundle.proofs.Searching.{meets, meets-none}
 

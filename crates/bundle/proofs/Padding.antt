@@ -20,6 +20,7 @@ use Rattle.layout.specs.Bytes.{Bytes, two, inBytes, twoAt}
 use Rattle.layout.proofs.BytesLaws.{in-bytes-length, byte-at, two-lt, bytes-append}
 use Rattle.bundle.specs.File.{padded, messageAt}
 use Rattle.bundle.specs.Reading.{some-meets, badWord, badTail}
+use Rattle.bundle.proofs.Searching.{meets-none}
 
 -- The bytes of the words that are read of bytes are these bytes
 
@@ -54,10 +55,6 @@ zeros-behind [] (suc m) zero = refl
 zeros-behind [] (suc m) (suc p) = zeros-behind [] m p
 zeros-behind (x ∷ s) m zero = refl
 zeros-behind (x ∷ s) m (suc p) = zeros-behind s m p
-
-none-meets : (test : ℕ → Bool) (vs : List ℕ) → ((i : ℕ) → i < length vs → test (getD vs i 0) ≡ false) → some-meets test vs ≡ false
-unfolding some-meets
-none-meets test vs each = le-ltb _ (length vs) (omega (arith, first-none (length vs) (λ i. test (getD vs i 0)) each))
 
 -- L ≤ 2kB, and every block begins inside the file
 
@@ -116,14 +113,14 @@ module _ (k : ℕ) (file : List ℕ) where
       pub word-good : badWord (messageAt k file b) ≡ false
       unfolding badWord
       word-good =
-          none-meets (λ x. eqb x 65536) (messageAt k file b)
+          meets-none (λ x. eqb x 65536) (messageAt k file b)
           (λ i h. ne-eqb (getD (messageAt k file b) i 0) 65536
           (λ e. omega (arith, message-at i (omega (arith, message-length b)), two-lt (padded k file) (2 * (k * b + i)) padded-bytes)))
 
       pub tail-good : badTail k (length file) b (messageAt k file b) ≡ false
       unfolding badTail
       tail-good =
-          none-meets (λ x. not (eqb x 0)) (drop (length file - 2 * (k * b)) (inBytes (messageAt k file b)))
+          meets-none (λ x. not (eqb x 0)) (drop (length file - 2 * (k * b)) (inBytes (messageAt k file b)))
           (λ i h. ap not (eq-eqb _ 0
           (getD-drop (length file - 2 * (k * b)) (inBytes (messageAt k file b)) i 0
           ∙ bytes-at (length file - 2 * (k * b) + i)

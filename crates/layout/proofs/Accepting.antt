@@ -151,7 +151,7 @@ module _ (k n L : ℕ) (hs : List Shadow) (s : List ℕ) (is : IsBundle k n L hs
   unfolding offsetIn
   read-offset t h = four-alike s (entryAt t + 4) _ 4 (entry-from 4 4 (lit≤ tt) t h) ∙ entry-offset (shadowAt hs t) _ (offset-lt t h)
 
-  pub read-start : (t : ℕ) → t ≤ length hs → startOf s t ≡ offsetOf (firstBody (length hs)) hs t
+  read-start : (t : ℕ) → t ≤ length hs → startOf s t ≡ offsetOf (firstBody (length hs)) hs t
   unfolding startOf offsetOf
   read-start zero h = ap firstBody read-m
   read-start (suc t) h =

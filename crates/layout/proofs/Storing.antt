@@ -140,7 +140,7 @@ pub body-long : (B : ℕ) (e : ℕ → ℕ) → length (bodyOf B e) ≡ bodySize
 unfolding bodyOf bodySize countOf
 body-long B e = simp (length-append, in-bytes-length, tab-length)
 
-pub body-bytes : (B : ℕ) (e : ℕ → ℕ) → Bytes (bodyOf B e)
+body-bytes : (B : ℕ) (e : ℕ → ℕ) → Bytes (bodyOf B e)
 unfolding bodyOf
 body-bytes B e =
     let list = overflows e B in

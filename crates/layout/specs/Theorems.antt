@@ -4,7 +4,7 @@ use mathlib.Core.Bool.{true}
 use mathlib.Core.List.{List, [], _++_}
 use Prim.Native.Nat.{ℕ, _<_, _≤_}
 use lib.ListN.{length}
-use Rattle.field.specs.Refusals.{Answer, result}
+use Rattle.field.specs.Refusals.{result}
 use Rattle.layout.specs.Blocks.{mostBlocks}
 use Rattle.layout.specs.Bytes.{Bytes}
 use Rattle.layout.specs.Facts.{toldFacts, toldEntry, factsAnswer, entryAnswer}

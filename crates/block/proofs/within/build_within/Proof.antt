@@ -1,14 +1,9 @@
 -- `block::within::build_within` meets its contract: at the loop's head the first j symbols are passed.
 -- Assumes nothing.
 use mathlib.Core.Path.{subst, sym, _∙_}
-use Prim.Native.Nat.{ℕ, _+_, _-_, _*_, _≤_}
+use Prim.Native.Nat.{_-_, _≤_}
 use native.Mathlib.Omega.{arith}
 use borrow.Author.Needs.{needs}
-use lib.ListN.{take}
-use lib.Seq.{length-take-le}
-use Rattle.field.specs.Size.{sizeOf}
-use Rattle.block.specs.Ready.{Ready}
-use Rattle.block.specs.Within.{heldWithin}
 use Rattle.block.proofs.HeldWithin.{width, front-long, started-behind, started-ready, started-long, value-now, Passed, passed-none, passed-more, passed-all, found-started}
 use Rattle.block.proofs.within.build_within.Statement.{statement}
 use Rattle.block.proofs.within.build_within.Tie as tie

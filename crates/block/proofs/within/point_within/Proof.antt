@@ -1,8 +1,7 @@
 -- `block::within::point_within` meets its contract: the position stands there.
 -- Assumes nothing.
-use mathlib.Core.Path.{_≡_, ap, ap₂, _∙_}
+use mathlib.Core.Path.{ap, ap₂, _∙_}
 use Prim.Native.Nat.{ℕ, _+_, _*_}
-use native.Mathlib.Omega.{arith}
 use borrow.Author.Needs.{needs}
 use lib.ListN.{getD}
 use Rattle.field.specs.Points.{pointOf}

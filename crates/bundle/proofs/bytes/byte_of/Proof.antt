@@ -1,7 +1,5 @@
 -- `bundle::bytes::byte_of` meets its contract: an even place has a word's first byte, an odd one its second.
 -- Assumes nothing.
-use mathlib.Core.Path.{_≡_}
-use Prim.Native.Nat.{ℕ}
 use native.Mathlib.Omega.{arith}
 use borrow.Author.Needs.{needs}
 use Rattle.bundle.proofs.MessageBytes.{even-byte, odd-byte}

@@ -7,7 +7,7 @@ use native.Mathlib.Omega.{arith}
 use borrow.Author.Needs.{needs}
 use lib.ListN.{length, getD, set}
 use Rattle.field.specs.Size.{sizeOf}
-use Rattle.layout.specs.Fields.{nIn, heldIn}
+use Rattle.layout.specs.Fields.{nIn}
 use Rattle.layout.proofs.Passing.{header-inside}
 use Rattle.bundle.specs.Gathering.{cursorHeld}
 use Rattle.bundle.specs.Reading.{symbolHeld}

@@ -1,6 +1,6 @@
 -- `bundle::reader::read_all` meets its contract: the file where all blocks are taken, else zeros, and the cells cleared.
 -- Assumes nothing.
-use mathlib.Core.Path.{sym, _∙_}
+use mathlib.Core.Path.{_∙_}
 use borrow.Author.Needs.{needs}
 use Rattle.layout.proofs.Passing.{header-inside}
 use Rattle.bundle.proofs.ReadLeaving.{leaves-file, leaves-refusal}

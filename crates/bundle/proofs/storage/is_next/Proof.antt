@@ -1,11 +1,7 @@
 -- `bundle::storage::is_next` meets its contract: behind the last entry no block is next.
 -- Assumes nothing.
-use mathlib.Core.Path.{ap, _∙_}
-use mathlib.Core.Bool.{Bool, _&&_}
-use Prim.Native.Nat.{ℕ}
 use borrow.Author.Needs.{needs}
 use borrow.Author.Tests.{lt-ltb, le-ltb}
-use lib.Dec.{eqb}
 use Rattle.layout.specs.Storage.{listAt}
 use Rattle.bundle.proofs.storage.is_next.Statement.{statement}
 use Rattle.bundle.proofs.storage.is_next.Tie as tie

@@ -43,10 +43,10 @@ use Rattle.layout.proofs.BytesLaws.{in-bytes-length}
 use Rattle.layout.proofs.Passing.{k-some}
 use Rattle.bundle.specs.Gathering.{Laid}
 use Rattle.bundle.specs.Reading.{some-meets, symbolHeld, heldAt, decodedAt, badWord, badTail, judged, blockAnswer, blocksAnswer, bytesOf, bytesBefore, fileIn}
-use Rattle.bundle.specs.Rooms.{workRoom}
+use Rattle.writer.specs.Rooms.{workRoom}
 use Rattle.bundle.proofs.Gathered.{held-room}
 use Rattle.bundle.proofs.HeldBlocks.{ready}
-use Rattle.bundle.proofs.Padding.{block-inside, blocks-hold}
+use Rattle.writer.proofs.Padding.{block-inside, blocks-hold}
 
 -- One message
 

@@ -27,21 +27,22 @@ use Rattle.block.specs.Theorems.{Encodes, Decodes}
 use Rattle.block.proofs.Theorems.{encodes-word, encode-decode}
 use Rattle.layout.specs.Blocks.{blocksOf, longestFile, mostBlocks, badBundleShape}
 use Rattle.layout.specs.Bytes.{Bytes, two, four, inBytes, twoAt}
-use Rattle.layout.specs.Fields.{entryAt, countIn}
+use Rattle.layout.specs.Fields.{lengthIn, entryAt, countIn}
 use Rattle.layout.specs.Held.{upTo}
 use Rattle.layout.specs.Mark.{mark}
-use Rattle.layout.specs.Shadows.{entrySize, header, entry, table, bodies, bundleOf}
+use Rattle.layout.specs.Shadows.{headerSize, entrySize, firstBody, header, entry, table, bodies, bundleOf}
 use Rattle.layout.specs.Storage.{overflows, wordOf, bodyOf}
-use Rattle.layout.proofs.Accepting.{passes}
-use Rattle.layout.proofs.BytesLaws.{two-alike, alike-front}
+use Rattle.layout.proofs.Accepting.{passes, read-L, bundle-length}
+use Rattle.layout.proofs.BytesLaws.{two-alike, four-alike, alike-front}
 use Rattle.layout.proofs.Holding.{all-length}
 use Rattle.layout.proofs.Passing.{entry-there}
-use Rattle.bundle.specs.File.{padded, messageAt, symbolAt, countAt, shadowOf, bundleAt, fileBundle}
-use Rattle.bundle.specs.Rooms.{writeRoom, workRoom}
-use Rattle.bundle.specs.Useless.{Coder, KeepsEncode, KeepsDecode, KeepsWrite, KeepsRead, Refused, RefusesNothingLess, NotConstant, WritesSomething, CodesLaterBlocks, InventsNothing, Useless}
-use Rattle.bundle.proofs.Bundling.{file-is-bundle, held-all, all-rise, bundle-count}
+use Rattle.writer.specs.File.{padded, messageAt, symbolAt, countAt, shadowOf, bundleAt, fileBundle}
+use Rattle.writer.specs.Rooms.{writeRoom, workRoom}
+use Rattle.bundle.specs.Useless.{Coder, KeepsEncode, KeepsDecode, KeepsWrite, KeepsRead, Refused, AnswersSome, NotConstant, WritesSomething, CodesLaterBlocks, InventsNothing, Useless}
+use Rattle.writer.proofs.Bundling.{file-is-bundle, held-all, all-rise, bundle-count}
 use Rattle.bundle.proofs.Demands.{writes-bundle, write-read}
-use Rattle.bundle.proofs.Padding.{zeros-behind}
+use Rattle.bundle.proofs.Shadowing.{bundle-bytes}
+use Rattle.writer.proofs.Padding.{zeros-behind}
 
 -- a call left a result, and x at a place of the list that takes it
 record Told (it : Leaves) (place x : ℕ) : Type 0 where
@@ -57,7 +58,7 @@ told place x vs l w e there =
       there = ap (λ (it : Leaves). getD (it .list) place 0) e ∙ there;
     }
 
-answers : {it : Leaves} {place x : ℕ} → Told it place x → Refused it → ⊥
+answers : {it : Leaves} {place x : ℕ} → Told it place x → ¬ Refused it
 answers told refuses = result-no-refusal (sym (told .answer) ∙ refuses .1 .1)
 
 differ : {it other : Leaves} {place : ℕ} → Told it place 0 → Told other place 1 → it ≡ other → ⊥
@@ -112,6 +113,10 @@ file-shape : (x : ℕ) → badBundleShape 1 1 (length (file x)) ≡ false
 unfolding file badBundleShape badShape longest longestFile mostBlocks blocksOf
 file-shape x = refl
 
+file-bundle-bytes : (x : ℕ) → Bytes (fileBundle 1 1 (file x))
+unfolding fileBundle
+file-bundle-bytes x = bundle-bytes 1 1 _ _ _ (file-is-bundle 1 1 (file x) (upTo 1) (file-shape x) (all-rise 1))
+
 -- the last byte of its bundle
 last-byte : (x : ℕ) → x < 2 → (rest : List ℕ) → getD (fileBundle 1 1 (file x) ++ rest) 27 0 ≡ x
 unfolding file fileBundle bundleAt shadowOf symbolAt messageAt padded blocksOf upTo tab bundleOf header mark two four table entry bodies bodyOf overflows wordOf inBytes symbolOf polynomialOf value pointOf power rootOf root roots sizeOf levelOf first twoAt
@@ -153,45 +158,77 @@ count-written k n file rest good i h =
     (alike-front 2 (bundleAt k n file (upTo n)) rest (entryAt i + 2) (omega arith))
     ∙ bundle-count k n file good i h
 
+-- and the length in the header
+
+length-written : (k n : ℕ) (file rest : List ℕ) → badBundleShape k n (length file) ≡ false
+    → lengthIn (fileBundle k n file ++ rest) ≡ length file
+unfolding fileBundle lengthIn firstBody headerSize
+length-written k n file rest good =
+    let is = file-is-bundle k n file (upTo n) good (all-rise n) in
+    four-alike _ 8 (bundleAt k n file (upTo n)) 8
+    (alike-front 4 (bundleAt k n file (upTo n)) rest 8 (omega (arith, bundle-length k n (length file) _ _ is)))
+    ∙ read-L k n (length file) _ _ is
+
 -- The five
 
 module _ (c : Coder) where
-  answers-some : RefusesNothingLess c
+  answers-some : AnswersSome c
   answers-some =
       record {
         encode = λ keeps all. answers (encoded c 0 (lit< tt) keeps) (all 1 1 _ _ _);
         decode = λ keeps all. answers (decoded c 0 (lit< tt) keeps) (all 1 1 _ _ _ _);
-        write = λ keeps all. answers (wrote c 0 (lit< tt) keeps) (all 1 1 _ _ _);
-        read = λ keeps all. answers (read c 0 (lit< tt) keeps) (all _ _ _);
+        write = λ keeps all. answers (wrote c 0 (lit< tt) keeps) (all 1 1 (file 0) _ _ (file-bytes 0 (lit< tt)));
+        read = λ keeps all. answers (read c 0 (lit< tt) keeps) (all (fileBundle 1 1 (file 0)) _ _ (file-bundle-bytes 0));
       }
 
   not-constant : NotConstant c
   not-constant =
       record {
-        encode = λ keeps all. differ (encoded c 0 (lit< tt) keeps) (encoded c 1 (lit< tt) keeps) (all 1 1 _ _ _ _);
-        decode = λ keeps all. differ (decoded c 0 (lit< tt) keeps) (decoded c 1 (lit< tt) keeps) (all 1 1 _ _ _ _ _);
-        write = λ keeps all. differ (wrote c 0 (lit< tt) keeps) (wrote c 1 (lit< tt) keeps) (all 1 1 _ _ _ _);
-        read = λ keeps all. differ (read c 0 (lit< tt) keeps) (read c 1 (lit< tt) keeps) (all _ _ _ _);
+        encode =
+            λ keeps all. let zero-in = encoded c 0 (lit< tt) keeps in
+            let one-in = encoded c 1 (lit< tt) keeps in differ zero-in one-in (all 1 1 _ _ _ _ (answers zero-in) (answers one-in));
+        decode =
+            λ keeps all. let zero-in = decoded c 0 (lit< tt) keeps in
+            let one-in = decoded c 1 (lit< tt) keeps in differ zero-in one-in (all 1 1 _ _ _ _ _ (answers zero-in) (answers one-in));
+        write =
+            λ keeps all. let zero-in = wrote c 0 (lit< tt) keeps in
+            let one-in = wrote c 1 (lit< tt) keeps in
+            differ zero-in one-in
+            (all 1 1 (file 0) (file 1) _ _ (file-bytes 0 (lit< tt)) (file-bytes 1 (lit< tt)) (answers zero-in) (answers one-in));
+        read =
+            λ keeps all. let zero-in = read c 0 (lit< tt) keeps in
+            let one-in = read c 1 (lit< tt) keeps in
+            differ zero-in one-in
+            (all (fileBundle 1 1 (file 0)) (fileBundle 1 1 (file 1)) _ _ (file-bundle-bytes 0) (file-bundle-bytes 1) (answers zero-in) (answers one-in));
       }
 
   writes-something : WritesSomething c
   writes-something =
       record {
-        encode = λ keeps all. writes (0 ∷ []) refl (encoded c 1 (lit< tt) keeps) (all 1 1 _ _ _);
-        decode = λ keeps all. writes (0 ∷ []) refl (decoded c 1 (lit< tt) keeps) (all 1 1 _ _ _ _);
-        write = λ keeps all. writes (zeros (writeRoom 1 2)) (zeros-behind [] (writeRoom 1 2) 27) (wrote c 1 (lit< tt) keeps) (all 1 1 _ _ _);
-        read = λ keeps all. writes (zeros 4) refl (read c 1 (lit< tt) keeps) (all _ _ _);
+        encode = λ keeps all. let one-in = encoded c 1 (lit< tt) keeps in writes (0 ∷ []) refl one-in (all 1 1 _ _ _ (answers one-in));
+        decode = λ keeps all. let one-in = decoded c 1 (lit< tt) keeps in writes (0 ∷ []) refl one-in (all 1 1 _ _ _ _ (answers one-in));
+        write =
+            λ keeps all. let one-in = wrote c 1 (lit< tt) keeps in
+            writes (zeros (writeRoom 1 2)) (zeros-behind [] (writeRoom 1 2) 27) one-in (all 1 1 (file 1) _ _ (file-bytes 1 (lit< tt)) (answers one-in));
+        read =
+            λ keeps all. let one-in = read c 1 (lit< tt) keeps in
+            writes (zeros 4) refl one-in (all (fileBundle 1 1 (file 1)) _ _ (file-bundle-bytes 1) (answers one-in));
       }
 
   codes-later : CodesLaterBlocks c
   unfolding file messageAt tab twoAt padded
-  codes-later keeps all = differ (wrote c 0 (lit< tt) keeps) (wrote c 1 (lit< tt) keeps) (all 1 1 (file 0) (file 1) _ _ refl refl)
+  codes-later keeps all =
+      let zero-in = wrote c 0 (lit< tt) keeps in
+      let one-in = wrote c 1 (lit< tt) keeps in
+      differ zero-in one-in
+      (all 1 1 (file 0) (file 1) _ _ (file-bytes 0 (lit< tt)) (file-bytes 1 (lit< tt)) refl refl (answers zero-in) (answers one-in))
 
   invents-nothing : InventsNothing c
   invents-nothing keeps k n file out work good enough spare =
       let is = keeps k n file out work ∙ writes-bundle k n file good out work enough spare in (
         ap (λ (it : Leaves). it .answer) is,
         λ i h. ap (λ (it : Leaves). countIn (it .list) i) is ∙ count-written k n file _ good i h,
+        ap (λ (it : Leaves). lengthIn (it .list)) is ∙ length-written k n file _ good,
       )
 
 pub useless : Useless

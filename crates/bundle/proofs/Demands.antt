@@ -19,12 +19,12 @@ use Rattle.layout.specs.Shadows.{Shadow}
 use Rattle.layout.proofs.Accepting.{passes, read-k, read-n, read-L, read-blocks}
 use Rattle.layout.proofs.Holding.{limits, all-length}
 use Rattle.bundle.specs.Checks.{writeChecks}
-use Rattle.bundle.specs.File.{messageAt, shadowOf, bundleAt, fileBundle}
+use Rattle.writer.specs.File.{messageAt, shadowOf, bundleAt, fileBundle}
 use Rattle.bundle.specs.Reading.{heldAt, decodedAt}
 use Rattle.bundle.specs.Theorems.{WritesBundle, WriteRead, LoseRead, DisagreeExactly, NeverAnother, TakenIsSent}
 use Rattle.bundle.proofs.HeldBlocks.{ready, block-disagrees}
 use Rattle.bundle.proofs.Passing.{write-passes, after-passed, after-disagree, read-before, read-passed}
-use Rattle.bundle.proofs.Bundling.{file-is-bundle, held-all, all-rise}
+use Rattle.writer.proofs.Bundling.{file-is-bundle, held-all, all-rise}
 use Rattle.bundle.proofs.Shadowing.{bundle-bytes, none-altered}
 use Rattle.bundle.proofs.Taking.{demand}
 use Rattle.bundle.proofs.Walking.{first-refused, disagree-first, read-leaves, read-answer}

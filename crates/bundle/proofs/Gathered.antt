@@ -24,8 +24,8 @@ use Rattle.layout.specs.Storage.{bodyGood}
 use Rattle.layout.proofs.Passing.{n-limited, held-few, offset-is-start, body-passed}
 use Rattle.bundle.specs.Gathering.{cursorHeld, Laid}
 use Rattle.bundle.specs.Reading.{symbolHeld}
-use Rattle.bundle.specs.Rooms.{workRoom}
-use Rattle.bundle.proofs.Cursors.{cursor-zero}
+use Rattle.writer.specs.Rooms.{workRoom}
+use Rattle.layout.proofs.Cursors.{cursor-zero}
 
 -- what a part from an index to the end is
 pub to-the-end : (s : List ℕ) (at : ℕ) → take (length s - at) (drop at s) ≡ drop at s

@@ -1,12 +1,5 @@
 pub mod Searching
-pub mod Padding
-pub mod Messages
-pub mod Placing
-pub mod Counting
-pub mod Bundling
-pub mod Onward
-pub mod Filling
-pub mod Fronting
+pub mod Tails
 pub mod Passing
 pub mod HeldBlocks
 pub mod Walking
@@ -17,7 +10,6 @@ pub mod Demands
 pub mod Worked
 pub mod Coders
 pub mod Theorems
-pub mod Cursors
 pub mod MessageBytes
 pub mod Gathered
 pub mod BlockReading

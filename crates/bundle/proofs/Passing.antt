@@ -16,7 +16,7 @@ use Rattle.layout.specs.Facts.{after}
 use Rattle.layout.specs.Fields.{kIn, nIn, lengthIn, heldIn}
 use Rattle.layout.specs.Layout.{badFront, restGood, layoutChecks}
 use Rattle.bundle.specs.Checks.{writeChecks, roomChecks, readChecks}
-use Rattle.bundle.specs.Rooms.{writeRoom, workRoom}
+use Rattle.writer.specs.Rooms.{writeRoom, workRoom}
 
 pub write-passes : (k n L out work : ℕ) → badBundleShape k n L ≡ false → writeRoom n (blocksOf k L) ≤ out → workRoom n ≤ work
     → writeChecks k n L out work ≡ result []

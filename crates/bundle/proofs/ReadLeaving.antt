@@ -17,7 +17,7 @@ use Rattle.layout.specs.Facts.{after}
 use Rattle.layout.specs.Fields.{nIn, lengthIn, blocksIn}
 use Rattle.bundle.specs.Calls.{blocksLeave}
 use Rattle.bundle.specs.Reading.{blocksAnswer, bytesBefore, fileIn}
-use Rattle.bundle.specs.Rooms.{workRoom}
+use Rattle.writer.specs.Rooms.{workRoom}
 
 -- all there is is written
 written-all : (vs list : List ℕ) → length list ≤ length vs → written vs list ≡ vs

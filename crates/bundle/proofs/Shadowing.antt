@@ -24,11 +24,10 @@ use Rattle.layout.specs.Storage.{symbolIn}
 use Rattle.layout.proofs.BytesLaws.{bytes-append, two-bytes, four-bytes}
 use Rattle.layout.proofs.Passing.{bundle-shape-told}
 use Rattle.layout.proofs.Theorems.{body-stores}
-use Rattle.bundle.specs.File.{messageAt, symbolAt, bundleAt}
+use Rattle.writer.specs.File.{Rising, messageAt, symbolAt, bundleAt}
 use Rattle.bundle.specs.Reading.{symbolHeld, heldAt}
-use Rattle.bundle.specs.Theorems.{Rising}
-use Rattle.bundle.proofs.Padding.{message-is}
-use Rattle.bundle.proofs.Bundling.{symbol-small, held-all, position-held, count-held, body-held}
+use Rattle.writer.proofs.Padding.{message-is}
+use Rattle.writer.proofs.Bundling.{symbol-small, held-all, position-held, count-held, body-held}
 use Rattle.bundle.proofs.HeldBlocks.{held-count, held-position, held-value}
 
 -- A bundle's numbers are bytes

@@ -28,11 +28,12 @@ use Rattle.layout.specs.Fields.{kIn, nIn, lengthIn, heldIn, blocksIn}
 use Rattle.layout.specs.Layout.{layoutChecks}
 use Rattle.layout.proofs.BytesLaws.{in-bytes-append}
 use Rattle.layout.proofs.Passing.{k-some}
-use Rattle.bundle.specs.File.{padded, messageAt}
+use Rattle.writer.specs.File.{padded, messageAt}
 use Rattle.bundle.specs.Reading.{heldAt, decodedAt, blockAnswer, bytesOf, bytesBefore, fileIn}
-use Rattle.bundle.specs.Rooms.{workRoom}
+use Rattle.writer.specs.Rooms.{workRoom}
 use Rattle.bundle.specs.Theorems.{Reads, Refuses, Demand3}
-use Rattle.bundle.proofs.Padding.{padded-words, message-is, word-good, tail-good}
+use Rattle.writer.proofs.Padding.{padded-words, message-is}
+use Rattle.bundle.proofs.Tails.{word-good, tail-good}
 use Rattle.bundle.proofs.Passing.{read-passes}
 use Rattle.bundle.proofs.HeldBlocks.{held-count, ready, block-taken, block-disagrees}
 use Rattle.bundle.proofs.Walking.{all-taken, first-refused, read-leaves}

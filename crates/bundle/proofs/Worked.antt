@@ -1,6 +1,6 @@
 -- The worked numbers as one table. P11 and P12 are here: the bundle of the file, and what the reader makes of it with another L.
 -- Assumes nothing.
-use mathlib.Core.Path.{_≡_, refl, ap, subst, _∙_}
+use mathlib.Core.Path.{_≡_, refl, ap, subst}
 use mathlib.Core.Bool.{false}
 use mathlib.Core.List.{List, [], _∷_}
 use Prim.Native.Nat.{ℕ, zero-le}
@@ -9,6 +9,7 @@ use lib.Dec.{lit<, lit≤}
 use lib.ListN.{length}
 use Rattle.field.specs.Field.{power}
 use Rattle.field.specs.First.{first}
+use Rattle.field.specs.Leaves.{left, unlessRefused}
 use Rattle.field.specs.Points.{rootOf, pointOf}
 use Rattle.field.specs.Refusals.{Answer, result, refused}
 use Rattle.field.specs.Roots.{roots, root}
@@ -36,18 +37,18 @@ use Rattle.layout.specs.Mark.{mark, startsWith}
 use Rattle.layout.specs.Rising.{least, outOfOrder, rises}
 use Rattle.layout.specs.Shadows.{headerSize, entrySize, firstBody, header, entry, table, bodies, bundleOf}
 use Rattle.layout.specs.Storage.{overflows, wordOf, countOf, bodyOf, bodySize, listAt, bodyGood, listed, symbolIn}
-use Rattle.bundle.specs.Calls.{readLeaves}
+use Rattle.bundle.specs.Calls.{blocksLeave, readLeaves}
 use Rattle.bundle.specs.Checks.{roomChecks, readChecks}
-use Rattle.bundle.specs.File.{padded, messageAt, symbolAt, shadowOf, bundleAt, fileBundle}
+use Rattle.writer.specs.File.{padded, messageAt, symbolAt, shadowOf, bundleAt, fileBundle}
 use Rattle.bundle.specs.Reading.{symbolHeld, heldAt, decodedAt, some-meets, badWord, badTail, judged, blockAnswer, blocksAnswer}
 use Rattle.bundle.specs.Theorems.{Writes, Reads, Refuses}
 use Rattle.bundle.specs.Worked.{file11, bundle11, bundle12, WorkedTable}
 use Rattle.bundle.proofs.Demands.{writes-bundle, write-read}
 use Rattle.bundle.proofs.HeldBlocks.{ready}
-use Rattle.bundle.proofs.Padding.{message-is}
+use Rattle.writer.proofs.Padding.{message-is}
 use Rattle.bundle.proofs.Passing.{read-passes}
 use Rattle.bundle.proofs.Shadowing.{all-bytes}
-use Rattle.bundle.proofs.Walking.{first-refused, read-leaves, read-answer}
+use Rattle.bundle.proofs.Walking.{first-refused, read-leaves}
 
 file-bytes : Bytes file11
 unfolding file11 first
@@ -99,11 +100,17 @@ shorter out work fits room =
     (read-passes (bundle12 3) (length out) (length work) shorter-layout fits room (lit≤ tt))
     (first-refused (bundle12 3) 10 0 1 0 0 zero-le (lit< tt) (λ d h l. absurd (omega arith)) shorter-block)
 
-longer : (out work : List ℕ) → readLeaves (bundle12 5) out work .answer ≡ refused Form
+longer-blocks : blocksIn (bundle12 5) ≡ 2
+unfolding blocksIn blocksOf kIn lengthIn twoAt fourAt bundle12 bundle11
+longer-blocks = refl
+
+longer : (out work : List ℕ) → readLeaves (bundle12 5) out work ≡ left (refused Form) out work
 unfolding readChecks
 longer out work =
-    read-answer (bundle12 5) out work
-    ∙ ap (λ (a : Answer). after (after a (roomChecks (bundle12 5) (length out) (length work))) (blocksAnswer (bundle12 5) 0 (blocksIn (bundle12 5)))) longer-layout
+    ap
+    (λ (a : Answer). unlessRefused (after a (roomChecks (bundle12 5) (length out) (length work))) out work
+    (blocksLeave (blocksAnswer (bundle12 5) 0 (blocksIn (bundle12 5))) (bundle12 5) out work))
+    longer-layout
 
 pub worked-table : WorkedTable
 worked-table =
@@ -122,5 +129,5 @@ worked-table =
         subst (Writes 2 4 file11) file-bundle (writes-bundle 2 4 file11 good-shape),
         subst (λ (s : List ℕ). Reads 4 s file11) file-bundle (write-read 2 4 file11 good-shape file-bytes),
       );
-      p12 = (shorter, longer);
+      p12 = (shorter, (longer-blocks, longer));
     }

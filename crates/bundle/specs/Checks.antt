@@ -9,7 +9,7 @@ use Rattle.layout.specs.Blocks.{blocksOf, badBundleShape}
 use Rattle.layout.specs.Facts.{after}
 use Rattle.layout.specs.Fields.{kIn, nIn, lengthIn, heldIn}
 use Rattle.layout.specs.Layout.{layoutChecks}
-use Rattle.bundle.specs.Rooms.{writeRoom, workRoom}
+use Rattle.writer.specs.Rooms.{writeRoom, workRoom}
 
 -- out and work are the lengths of the output and of the working space, L that of the file
 

@@ -3,20 +3,15 @@
 use mathlib.Core.Path.{_≡_}
 use mathlib.Core.List.{List}
 use Prim.Native.Nat.{ℕ, _+_, _*_, _<_}
-use lib.Dec.{leb}
 use lib.ListN.{length, getD, drop}
-use Rattle.field.specs.First.{first}
 use Rattle.field.specs.Size.{sizeOf}
 use Rattle.poly.specs.Tab.{tab}
 use Rattle.block.specs.Within.{positionsWithin}
 use Rattle.layout.specs.Fields.{nIn, heldIn, positionIn, countIn, offsetIn}
-use Rattle.layout.specs.Storage.{listAt}
-use Rattle.bundle.specs.Rooms.{workRoom}
+use Rattle.layout.specs.Storage.{cursorIn}
+use Rattle.writer.specs.Rooms.{workRoom}
 
--- how many entries of an overflow list are below b
-unfoldable pub cursorIn : ℕ → List ℕ → ℕ → ℕ
-cursorIn c body b = first c (λ j. leb b (listAt body j))
-
+-- the cursor of shadow t at block b
 unfoldable pub cursorHeld : List ℕ → ℕ → ℕ → ℕ
 cursorHeld s b t = cursorIn (countIn s t) (drop (offsetIn s t) s) b
 

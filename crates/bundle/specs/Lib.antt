@@ -1,6 +1,3 @@
-pub mod File
-pub mod Writing
-pub mod Rooms
 pub mod Reading
 pub mod Gathering
 pub mod Answers

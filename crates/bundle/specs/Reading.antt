@@ -20,7 +20,7 @@ use Rattle.layout.specs.Storage.{symbolIn}
 unfoldable pub symbolHeld : List ℕ → ℕ → ℕ → ℕ
 symbolHeld s b t = symbolIn (countIn s t) (drop (offsetIn s t) s) b
 
--- all m shadows, "in the table's order"
+-- all m shadows, in table order
 unfoldable pub heldAt : List ℕ → ℕ → Held
 heldAt s b = held (tab (heldIn s) (positionIn s)) (tab (heldIn s) (symbolHeld s b))
 

@@ -1,10 +1,10 @@
 -- What is proved of the definitions, as statements: proofs/Theorems.antt proves each under the same name in small letters.
 use mathlib.Core.Path.{_≡_}
-use mathlib.Core.Bool.{true, false}
+use mathlib.Core.Bool.{false}
 use mathlib.Core.List.{List, [], _∷_, map}
 use mathlib.Core.Logic.{_⊎_, _↔_}
 use Prim.Native.Nat.{ℕ, _+_, _<_, _≤_}
-use lib.ListN.{length, getD, replicate}
+use lib.ListN.{length, replicate}
 use Rattle.field.specs.Leaves.{left, written, zeroed}
 use Rattle.field.specs.Refusals.{result, refused}
 use Rattle.field.specs.declared.refusal.Refusal.{Refusal}
@@ -16,13 +16,12 @@ use Rattle.layout.specs.Bytes.{Bytes}
 use Rattle.layout.specs.Fields.{kIn, nIn, lengthIn, heldIn, blocksIn}
 use Rattle.layout.specs.Held.{IsBundle}
 use Rattle.layout.specs.Layout.{layoutChecks}
-use Rattle.layout.specs.Rising.{rises}
 use Rattle.bundle.specs.Answers.{Settled}
 use Rattle.bundle.specs.Calls.{writeLeaves, readLeaves}
 use Rattle.bundle.specs.Checks.{readChecks}
-use Rattle.bundle.specs.File.{messageAt, shadowOf, bundleAt, fileBundle}
+use Rattle.writer.specs.File.{Rising, messageAt, shadowOf, bundleAt, fileBundle}
 use Rattle.bundle.specs.Reading.{heldAt, blockAnswer}
-use Rattle.bundle.specs.Rooms.{writeRoom, workRoom}
+use Rattle.writer.specs.Rooms.{writeRoom, workRoom}
 
 -- The calls: what they leave, given room
 
@@ -43,10 +42,6 @@ abbrev pub Refuses : ℕ → ℕ → List ℕ → Refusal → Type 0
 Refuses n L s x =
     (out work : List ℕ) → L ≤ length out → workRoom n ≤ length work
     → readLeaves s out work ≡ left (refused x) (written (replicate L 0) out) (zeroed (workRoom n) work)
-
--- positions of a code word of length n, rising strictly
-abbrev pub Rising : ℕ → List ℕ → Type 0
-Rising n positions = rises n (length positions) (λ t. getD positions t 0) ≡ true
 
 -- Demand 2
 
@@ -83,7 +78,7 @@ DisagreeExactly =
     × ((c : ℕ) → c < b → blockAnswer s c ≡ result [])
     × ((message : List ℕ) → ¬ Fits (kIn s) (nIn s) (heldAt s b) message))
 
--- a bundle of good layout with the file's k, n and L, of which in each block at most m - k symbols are altered
+-- a bundle with the file's k, n and L, of which in each block at most m - k symbols are altered
 pub record FewAltered (k n : ℕ) (file s : List ℕ) : Type 0 where
   pub k-kept : kIn s ≡ k
   pub n-kept : nIn s ≡ n
@@ -105,7 +100,7 @@ NeverAnother =
     (k n : ℕ) (file s : List ℕ) → Bytes file → Bytes s → layoutChecks s ≡ result [] → k ≤ heldIn s → FewAltered k n file s
     → Demand3 k n file s
 
--- whatever the bytes are: where the reader takes them, they being altered in no more than that, it leaves the file
+-- whatever the bytes are: where the reader takes them, and a good layout would be altered in no more than that, it leaves the file
 abbrev pub TakenIsSent : Type 0
 TakenIsSent =
     (k n : ℕ) (file s out work vs : List ℕ) → Bytes file → Bytes s → (layoutChecks s ≡ result [] → FewAltered k n file s)

@@ -3,10 +3,12 @@ use mathlib.Core.Path.{_≡_}
 use mathlib.Core.List.{List, [], _∷_, _++_}
 use Prim.Native.Nat.{ℕ}
 use lib.ListN.{set}
+use Rattle.field.specs.Leaves.{left}
 use Rattle.field.specs.Refusals.{refused}
 use Rattle.field.specs.declared.refusal.Refusal.the-variants.{Tail, Form}
 use Rattle.transform.specs.Transform.{transformOf, inverseOf}
 use Rattle.block.specs.Theorems.{Encodes, Decodes, Disagrees}
+use Rattle.layout.specs.Fields.{blocksIn}
 use Rattle.bundle.specs.Calls.{readLeaves}
 use Rattle.bundle.specs.Theorems.{Writes, Reads, Refuses}
 
@@ -40,4 +42,5 @@ pub record WorkedTable : Type 0 where
   pub p10 : Decodes 2 4 (0 ∷ 1 ∷ 2 ∷ 3 ∷ []) (3 ∷ 65026 ∷ 65536 ∷ 513 ∷ []) (1 ∷ 2 ∷ [])
   pub p11 : Writes 2 4 file11 bundle11 × Reads 4 bundle11 file11
   -- "the same with L = 3: TAIL, place 0. With L = 5, B is 2: FORM."
-  pub p12 : Refuses 4 3 (bundle12 3) (Tail 0) × ((out work : List ℕ) → readLeaves (bundle12 5) out work .answer ≡ refused Form)
+  pub p12 : Refuses 4 3 (bundle12 3) (Tail 0)
+      × ((blocksIn (bundle12 5) ≡ 2) × ((out work : List ℕ) → readLeaves (bundle12 5) out work ≡ left (refused Form) out work))

@@ -1,5 +1,5 @@
 // A decoded message as bytes of the file. No entry points and for this crate alone: the callers have made the checks.
-use crate::words::wide;
+use field::inner::wide;
 ghost use mathlib.Core.Path.{_≡_};
 ghost use mathlib.Core.Bool.{not};
 ghost use mathlib.Core.List.{_++_};

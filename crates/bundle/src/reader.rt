@@ -6,13 +6,12 @@ use crate::bytes::bad_bytes;
 use crate::bytes::bad_word;
 use crate::bytes::clear_bytes;
 use crate::bytes::lay_bytes;
-use crate::storage::advance;
-use crate::storage::symbol;
-use crate::words::wide;
 use block::inner::solve_within;
 use field::Outcome;
 use field::Refusal;
 use field::inner::size;
+use field::inner::wide;
+use layout::inner::advance;
 use layout::inner::blocks_in;
 use layout::inner::count_in;
 use layout::inner::held_in;
@@ -21,6 +20,7 @@ use layout::inner::length_in;
 use layout::inner::n_in;
 use layout::inner::offset_in;
 use layout::inner::position_in;
+use layout::inner::symbol;
 use transform::inner::clear;
 ghost use mathlib.Core.Path.{_≡_};
 ghost use mathlib.Core.List.{[], _∷_, _++_};
@@ -40,7 +40,7 @@ ghost use Rattle.bundle.specs.Answers.{toldLength};
 ghost use Rattle.bundle.specs.Calls.{blocksLeave};
 ghost use Rattle.bundle.specs.Gathering.{cursorHeld, Laid};
 ghost use Rattle.bundle.specs.Reading.{symbolHeld, judged, blockAnswer, blocksAnswer, bytesBefore, fileIn};
-ghost use Rattle.bundle.specs.Rooms.{workRoom};
+ghost use Rattle.writer.specs.Rooms.{workRoom};
 
 fn lay_positions(bundle: &[u8], cells: &mut [u32])
     requires { ⌜ (layoutChecks (now bundle) ≡ result []) × (length (now cells) ≡ heldIn (now bundle)) ⌝ }

@@ -4,7 +4,7 @@ ghost use mathlib.Core.Path.{_≡_};
 ghost use Prim.Native.Nat.{_≤_};
 ghost use Rattle.field.specs.Shape.{longest};
 ghost use Rattle.layout.specs.Blocks.{mostBlocks};
-ghost use Rattle.bundle.specs.Rooms.{writeRoom, workRoom};
+ghost use Rattle.writer.specs.Rooms.{writeRoom, workRoom};
 
 // No entry point: n and B are those of a good shape.
 pub fn write_room(n: usize, blocks: usize) -> usize

@@ -116,6 +116,13 @@ pub fn size(n: usize) -> usize
     1 << level(n)
 }
 
+// A number that stands in a lent list, as one to count with.
+pub fn wide(number: u32) -> usize
+    ensures { λ r. ⌜ r ≡ number ⌝ }
+{
+    number as usize
+}
+
 // In lent lists a position stands as a bare number.
 pub fn position(number: u32) -> Position
     ensures { λ r. ⌜ r .0 ≡ number ⌝ }

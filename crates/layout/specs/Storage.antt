@@ -1,5 +1,5 @@
 -- How a body stores B symbols (document 01, "The bundle"): "A body is c block numbers of 2 bytes, rising strictly, each below B; then B words of
--- 2 bytes, one for each block." Nothing outside this file says how a symbol is stored.
+-- 2 bytes, one for each block." How a symbol is stored is said here and nowhere else in specs/ of this crate.
 use mathlib.Core.Bool.{Bool, cond, _&&_}
 use mathlib.Core.List.{List, [], _∷_, _++_}
 use Prim.Native.Nat.{ℕ, zero, suc, _+_, _*_}
@@ -7,7 +7,7 @@ use lib.Dec.{leb, ltb, eqb}
 use lib.ListN.{length}
 use Rattle.field.specs.First.{first}
 use Rattle.poly.specs.Tab.{tab}
-use Rattle.layout.specs.Bytes.{inBytes, twoAt}
+use Rattle.layout.specs.Bytes.{two, inBytes, twoAt, put}
 use Rattle.layout.specs.Rising.{rises}
 
 -- As it is written: e b is the symbol of block b
@@ -27,6 +27,11 @@ countOf B e = length (overflows e B)
 
 unfoldable pub bodyOf : ℕ → (ℕ → ℕ) → List ℕ
 bodyOf B e = inBytes (overflows e B) ++ inBytes (tab B (λ b. wordOf (e b)))
+
+-- bytes with the symbol x of block b put into the body that begins at an index, done block numbers being listed in it
+unfoldable pub stored : ℕ → ℕ → ℕ → ℕ → ℕ → List ℕ → List ℕ
+stored at count done b x s =
+    put (two (wordOf x)) (at + (2 * count + 2 * b)) (cond (eqb x 65536) (put (two b) (at + 2 * done) s) s)
 
 -- As it is read: s begins with the body, c being its overflow count
 
@@ -48,3 +53,7 @@ listed c s b = ltb (first c (λ j. eqb (listAt s j) b)) c
 -- "the reader doesn't use the word of a listed block"
 unfoldable pub symbolIn : ℕ → List ℕ → ℕ → ℕ
 symbolIn c s b = cond (listed c s b) 65536 (twoAt s (2 * c + 2 * b))
+
+-- how many entries of an overflow list are below b
+unfoldable pub cursorIn : ℕ → List ℕ → ℕ → ℕ
+cursorIn c body b = first c (λ j. leb b (listAt body j))

@@ -1,5 +1,5 @@
-// The tests of a bundle's layout, in document 01's order. They write nothing. No entry points and for this crate alone: most ask that what they
-// read is there.
+// The tests of a bundle's layout, in document 01's order. They write nothing. No entry points: most ask that what they read is there, and what the
+// crates above need of them stands in `inner`.
 use crate::inner::blocks;
 use crate::inner::count_in;
 use crate::inner::held_in;

@@ -2,6 +2,10 @@
 // that read or write at an index ask that it lies inside.
 pub use crate::checks::bad_bundle_shape;
 pub use crate::checks::layout_checks;
+pub use crate::storage::advance;
+pub use crate::storage::body_size;
+pub use crate::storage::store;
+pub use crate::storage::symbol;
 ghost use mathlib.Core.Path.{_≡_};
 ghost use mathlib.Core.List.{[]};
 ghost use Prim.Native.Nat.{_+_, _<_, _≤_};
@@ -28,7 +32,7 @@ pub fn two_at(bytes: &[u8], at: usize) -> usize
     256 * wide(bytes[at]) + wide(bytes[at + 1])
 }
 
-pub fn four_at(bytes: &[u8], at: usize) -> usize
+fn four_at(bytes: &[u8], at: usize) -> usize
     requires { ⌜ at + 3 < length (now bytes) ⌝ }
     ensures { λ r. ⌜ (r ≡ fourAt (now (bytes .entry)) at) × (r < 4294967296) ⌝ }
 {

@@ -2,6 +2,7 @@
 mod checks;
 mod facts;
 pub mod inner;
+mod storage;
 
 pub use facts::Entry;
 pub use facts::EntryAnswer;

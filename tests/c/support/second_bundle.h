@@ -1,5 +1,5 @@
-/* The second coder's bundles: document 01's rules for writing and reading a bundle once more, written from that document alone, on top of the
- * second coder's blocks. Like them it is slow and plain on purpose and shares nothing with the library. */
+/* The second coder's bundles: document 01's rules for writing and reading a bundle once more, written from that document (facts and entry from the
+ * manual), on top of the second coder's blocks. Like them it is slow and plain on purpose and shares nothing with the library. */
 #ifndef SECOND_BUNDLE_H
 #define SECOND_BUNDLE_H
 

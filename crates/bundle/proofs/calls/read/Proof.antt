@@ -12,7 +12,7 @@ use Rattle.layout.specs.Fields.{blocksIn}
 use Rattle.layout.proofs.Passing.{header-inside}
 use Rattle.bundle.specs.Checks.{readChecks}
 use Rattle.bundle.specs.Reading.{blocksAnswer}
-use Rattle.bundle.specs.Rooms.{workRoom}
+use Rattle.writer.specs.Rooms.{workRoom}
 use Rattle.bundle.proofs.Passing.{read-passed}
 use Rattle.bundle.proofs.ReadLeaving.{blocks-whole}
 use Rattle.bundle.proofs.calls.read.Statement.{statement}

@@ -15,7 +15,7 @@ use Rattle.field.proofs.Shape.{shape-good}
 use Rattle.layout.specs.Blocks.{blocksOf, longestFile, mostBlocks, badBundleShape}
 use Rattle.layout.proofs.Passing.{bundle-shape-told}
 use Rattle.bundle.specs.Checks.{writeChecks}
-use Rattle.bundle.specs.Rooms.{writeRoom, workRoom}
+use Rattle.writer.specs.Rooms.{writeRoom, workRoom}
 use Rattle.bundle.proofs.checks.write_checks.Statement.{statement}
 use Rattle.bundle.proofs.checks.write_checks.Tie as tie
 

@@ -11,7 +11,7 @@ use Rattle.layout.specs.Fields.{nIn}
 use Rattle.layout.proofs.Passing.{header-inside}
 use Rattle.bundle.specs.Gathering.{cursorHeld}
 use Rattle.bundle.specs.Reading.{symbolHeld}
-use Rattle.bundle.specs.Rooms.{workRoom}
+use Rattle.writer.specs.Rooms.{workRoom}
 use Rattle.bundle.proofs.Gathered.{held-room, Gathered, gathered-none, gathered-more, gathered-all}
 use Rattle.bundle.proofs.reader.gather.Statement.{statement}
 use Rattle.bundle.proofs.reader.gather.Tie as tie

@@ -8,7 +8,8 @@ use borrow.Author.Needs.{needs}
 use lib.ListN.{length, take, drop}
 use Rattle.layout.specs.Fields.{countIn, offsetIn}
 use Rattle.layout.proofs.Passing.{entry-there, offset-inside}
-use Rattle.bundle.specs.Gathering.{cursorIn, cursorHeld}
+use Rattle.layout.specs.Storage.{cursorIn}
+use Rattle.bundle.specs.Gathering.{cursorHeld}
 use Rattle.bundle.proofs.Gathered.{to-the-end, body-lent}
 use Rattle.bundle.proofs.reader.next_cursor.Statement.{statement}
 use Rattle.bundle.proofs.reader.next_cursor.Tie as tie

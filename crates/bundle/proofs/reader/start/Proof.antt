@@ -13,7 +13,7 @@ use Rattle.field.specs.Refusals.{result}
 use Rattle.layout.specs.Fields.{nIn, heldIn}
 use Rattle.layout.specs.Layout.{layoutChecks}
 use Rattle.layout.proofs.Passing.{header-inside}
-use Rattle.bundle.specs.Rooms.{workRoom}
+use Rattle.writer.specs.Rooms.{workRoom}
 use Rattle.bundle.proofs.Gathered.{held-room, laid-first}
 use Rattle.bundle.proofs.reader.start.Statement.{statement}
 use Rattle.bundle.proofs.reader.start.Tie as tie

@@ -6,7 +6,7 @@ use borrow.Author.Needs.{needs}
 use Rattle.field.specs.Shape.{longest}
 use Rattle.layout.specs.Blocks.{mostBlocks}
 use Rattle.layout.specs.Shadows.{headerSize, entrySize, firstBody}
-use Rattle.bundle.specs.Rooms.{writeRoom}
+use Rattle.writer.specs.Rooms.{writeRoom}
 use Rattle.bundle.proofs.rooms.write_room.Statement.{statement}
 use Rattle.bundle.proofs.rooms.write_room.Tie as tie
 

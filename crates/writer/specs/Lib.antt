@@ -1,0 +1,3 @@
+pub mod File
+pub mod Rooms
+pub mod Writing

@@ -1,0 +1,108 @@
+// Writing a bundle: one pass over the blocks counts the overflows, of which the table needs the counts, and one writes the bodies. No entry
+// points and for this crate alone: the entry point has made the checks.
+use crate::counts::clear_counts;
+use crate::counts::code_front;
+use crate::counts::count_overflows;
+use crate::counts::tally;
+use crate::front::write_front;
+use field::inner::size;
+use field::inner::wide;
+use layout::inner::blocks;
+use layout::inner::body_size;
+use layout::inner::count_in;
+use layout::inner::offset_in;
+use layout::inner::store;
+use transform::inner::clear;
+ghost use mathlib.Core.Path.{_≡_};
+ghost use mathlib.Core.Bool.{false};
+ghost use Prim.Native.Nat.{suc, _+_, _*_, _<_, _≤_};
+ghost use lib.ListN.{length, replicate};
+ghost use Rattle.field.specs.Leaves.{written};
+ghost use Rattle.field.specs.Size.{sizeOf};
+ghost use Rattle.layout.specs.Blocks.{blocksOf, badBundleShape};
+ghost use Rattle.layout.specs.Fields.{entryAt, countIn, offsetIn};
+ghost use Rattle.layout.specs.Shadows.{entrySize};
+ghost use Rattle.layout.specs.Storage.{stored, bodySize};
+ghost use Rattle.writer.specs.File.{fileBundle};
+ghost use Rattle.writer.specs.Rooms.{writeRoom, workRoom};
+ghost use Rattle.writer.specs.Writing.{Coded, Counted, Onward, Progress};
+
+// The symbol of block b into the body of shadow i, which the table has placed.
+fn put_symbol(out: &mut [u8], i: usize, blocks: usize, b: usize, done: usize, symbol: u32)
+    requires { ⌜ (entryAt i + entrySize ≤ length (now out)) × (offsetIn (now out) i + bodySize blocks (countIn (now out) i) ≤ length (now out)) × (blocks < 65536) ⌝ }
+    requires { ⌜ (b < blocks) × (done ≤ countIn (now out) i) × (symbol < 65537) ⌝ }
+    ensures { λ _. ⌜ now (out .exit) ≡ stored (offsetIn (now (out .entry)) i) (countIn (now (out .entry)) i) done b symbol (now (out .entry)) ⌝ }
+{
+    let count = count_in(out, i);
+    let at = offset_in(out, i);
+    let end = at + body_size(blocks, count);
+    store(&mut out[at..end], count, done, b, symbol);
+}
+
+// The symbols of block b into the bodies.
+fn store_block(k: usize, n: usize, file: &[u8], b: usize, out: &mut [u8], cells: &[u32])
+    requires { ⌜ (badBundleShape k n (length (now file)) ≡ false) × (b < blocksOf k (length (now file))) × Progress k n (now file) b (now out) ⌝ }
+    requires { ⌜ Counted k n (now file) b (now cells) ⌝ }
+    requires { ⌜ Coded k n (now file) b (now cells) ⌝ }
+    ensures { λ _. ⌜ Onward (fileBundle k n (now (file .entry))) (now (out .entry)) (now (out .exit)) ⌝ }
+    ensures { λ _. ⌜ Progress k n (now (file .entry)) (suc b) (now (out .exit)) ⌝ }
+{
+    let size = size(n);
+    let blocks = blocks(k, file.len());
+    let mut i = 0;
+    while i < n {
+        put_symbol(out, i, blocks, b, wide(cells[size + i]), cells[i]);
+        i += 1;
+    }
+}
+
+fn write_block(k: usize, n: usize, file: &[u8], b: usize, out: &mut [u8], cells: &mut [u32])
+    requires { ⌜ (badBundleShape k n (length (now file)) ≡ false) × (b < blocksOf k (length (now file))) × Progress k n (now file) b (now out) × Counted k n (now file) b (now cells) ⌝ }
+    ensures { λ _. ⌜ Onward (fileBundle k n (now (file .entry))) (now (out .entry)) (now (out .exit)) ⌝ }
+    ensures { λ _. ⌜ Progress k n (now (file .entry)) (suc b) (now (out .exit)) ⌝ }
+    ensures { λ _. ⌜ Counted k n (now (file .entry)) (suc b) (now (cells .exit)) ⌝ }
+{
+    let size = size(n);
+    code_front(k, n, file, b, cells);
+    store_block(k, n, file, b, out, cells);
+    tally(n, size, cells);
+}
+
+// The bodies, block by block.
+fn write_bodies(k: usize, n: usize, file: &[u8], out: &mut [u8], cells: &mut [u32])
+    requires { ⌜ (badBundleShape k n (length (now file)) ≡ false) × Progress k n (now file) 0 (now out) × (length (now cells) ≡ 2 * sizeOf n) ⌝ }
+    ensures { λ _. ⌜ now (out .exit) ≡ written (fileBundle k n (now (file .entry))) (now (out .entry)) ⌝ }
+{
+    let blocks = blocks(k, file.len());
+    clear_counts(n, cells);
+    let mut b = 0;
+    while b < blocks {
+        write_block(k, n, file, b, out, cells);
+        b += 1;
+    }
+}
+
+// The whole bundle with 2N cells.
+fn write_within(k: usize, n: usize, file: &[u8], out: &mut [u8], cells: &mut [u32]) -> usize
+    requires { ⌜ (badBundleShape k n (length (now file)) ≡ false) × (length (fileBundle k n (now file)) ≤ length (now out)) × (length (now cells) ≡ 2 * sizeOf n) ⌝ }
+    ensures { λ r. ⌜ r ≡ length (fileBundle k n (now (file .entry))) ⌝ }
+    ensures { λ _. ⌜ now (out .exit) ≡ written (fileBundle k n (now (file .entry))) (now (out .entry)) ⌝ }
+{
+    count_overflows(k, n, file, cells);
+    let length = write_front(k, n, file, out, cells);
+    write_bodies(k, n, file, out, cells);
+    length
+}
+
+// The whole bundle at the output's front, and its length; cells is the stated working space.
+pub fn write_all(k: usize, n: usize, file: &[u8], out: &mut [u8], cells: &mut [u32]) -> usize
+    requires { ⌜ (badBundleShape k n (length (now file)) ≡ false) × (writeRoom n (blocksOf k (length (now file))) ≤ length (now out)) × (length (now cells) ≡ workRoom n) ⌝ }
+    ensures { λ r. ⌜ r ≡ length (fileBundle k n (now (file .entry))) ⌝ }
+    ensures { λ _. ⌜ now (out .exit) ≡ written (fileBundle k n (now (file .entry))) (now (out .entry)) ⌝ }
+    ensures { λ _. ⌜ now (cells .exit) ≡ replicate (workRoom n) 0 ⌝ }
+{
+    let size = size(n);
+    let length = write_within(k, n, file, out, &mut cells[0..2 * size]);
+    clear(cells);
+    length
+}

@@ -102,7 +102,7 @@ uint32_t sulmirejo_decode(size_t k, size_t n, const uint32_t *positions, size_t 
 /* The bundle of a file: all n shadows of it, of which any k bring the file back. The file is taken as words of two bytes, most significant
  * byte first, padded with zero bytes to whole blocks of 2*k bytes; B is their number, file_len / (2*k) rounded up, so 0 for an empty file.
  * Shadow i holds symbol i of the code word of each block. All numbers of a bundle are most significant byte first:
- *   - the header, 16 bytes: 46 4E 54 42 in hexadecimal, k (2 bytes), n (2), the file's length L (4), the number m of shadows held (2), two zero bytes;
+ *   - the header, 16 bytes: 46 4E 54 42 (hexadecimal), k (2 bytes), n (2), the file's length L (4), the number m held (2), two zero bytes;
  *   - the table, m entries of 8 bytes: position i (2), overflow count c (2), offset of the body from the bundle's start (4);
  *   - the bodies, in the table's order and without gaps, the first at 16 + 8*m, the last up to the bundle's end.
  * Positions rise strictly and are below n. A body is c block numbers of 2 bytes, rising strictly and below B, those of the blocks whose symbol
@@ -118,11 +118,11 @@ uint32_t sulmirejo_write(size_t k, size_t n, const uint8_t *file, size_t file_le
                          size_t work_len, size_t *number);
 
 /* The file of a bundle, which may hold any m of the n shadows, k or more: the layout above holds for it, but that the word of a listed block
- * is not used and may be anything. All m shadows are compared, also where k of them would do. Where the
- * header is as it was written and in each block at most m - k of the m symbols are altered, the answer is the file or a refusal, never another
- * file. With m = k DISAGREE is never given and an alteration may go unseen: keep every shadow that there is. k, n and L are believed as they
- * stand in the header. The output is L bytes, the working space 8*N numbers, N being the smallest power of two that is at least n, whatever
- * they held; sulmirejo_facts tells L and n beforehand.
+ * is not used and may be anything. All m shadows are compared, also where k of them would do: where the header is as it was written and in
+ * each block at most m - k of the m symbols are altered, the answer is the file or a refusal, never another file. With m = k DISAGREE is never
+ * given and an alteration may go unseen: keep every shadow that there is. k, n and L are believed as they stand in the header. The output is L
+ * bytes, the working space 8*N numbers, N being the smallest power of two that is at least n, whatever they held; sulmirejo_facts tells L and
+ * n beforehand.
  *
  * Refusals, in this order: FORM where bundle_len is below 16, the first four bytes are others or the last two of the header are not zero;
  * SHAPE where k is 0 or above n, n above 4096, L above 1048576 or B above 65535; FORM for any other breach of the layout; ROOM where out_len

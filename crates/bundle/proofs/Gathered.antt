@@ -28,7 +28,7 @@ use Rattle.writer.specs.Rooms.{workRoom}
 use Rattle.layout.proofs.Cursors.{cursor-zero}
 
 -- what a part from an index to the end is
-pub to-the-end : (s : List ℕ) (at : ℕ) → take (length s - at) (drop at s) ≡ drop at s
+to-the-end : (s : List ℕ) (at : ℕ) → take (length s - at) (drop at s) ≡ drop at s
 to-the-end s at = take-all (length s - at) (drop at s) (omega (arith, length-drop at s))
 
 module _ (s : List ℕ) (good : layoutChecks s ≡ result []) where
@@ -43,6 +43,12 @@ module _ (s : List ℕ) (good : layoutChecks s ≡ result []) where
       ∙ ap (bodyGood (blocksIn s) (countIn s t))
       (to-the-end s at ∙ ap (λ (z : ℕ). drop z s) (first ∙ offset-is-start s good t h))
       ∙ body-passed s good t h
+
+-- what is read of the lent body, from what the calls before gave
+pub lent : (f : ℕ → List ℕ → ℕ → ℕ) (s : List ℕ) (t at c b : ℕ) → at ≡ offsetIn s t → c ≡ countIn s t
+    → f c (take (length s - at) (drop at s)) b ≡ f (countIn s t) (drop (offsetIn s t) s) b
+lent f s t at c b first second =
+    ap₂ (λ (x : ℕ) (l : List ℕ). f x l b) second (to-the-end s at ∙ ap (λ (z : ℕ). drop z s) first)
 
 -- the first t shadows of block b are gathered
 pub record Gathered (s : List ℕ) (b t : ℕ) (cells : List ℕ) : Type 0 where

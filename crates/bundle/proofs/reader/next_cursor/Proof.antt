@@ -1,24 +1,15 @@
 -- `bundle::reader::next_cursor` meets its contract: the shadow's body stands at its offset, and its list rises.
 -- Assumes nothing.
-use mathlib.Core.Path.{_≡_, sym, ap, ap₂, _∙_}
-use mathlib.Core.List.{List}
-use Prim.Native.Nat.{ℕ, suc, _-_}
+use mathlib.Core.Path.{sym, _∙_}
+use Prim.Native.Nat.{suc, _-_}
 use native.Mathlib.Omega.{arith}
 use borrow.Author.Needs.{needs}
-use lib.ListN.{length, take, drop}
-use Rattle.layout.specs.Fields.{countIn, offsetIn}
 use Rattle.layout.proofs.Passing.{entry-there, offset-inside}
 use Rattle.layout.specs.Storage.{cursorIn}
 use Rattle.bundle.specs.Gathering.{cursorHeld}
-use Rattle.bundle.proofs.Gathered.{to-the-end, body-lent}
+use Rattle.bundle.proofs.Gathered.{body-lent, lent}
 use Rattle.bundle.proofs.reader.next_cursor.Statement.{statement}
 use Rattle.bundle.proofs.reader.next_cursor.Tie as tie
-
--- what is read of the lent body, from what the calls before gave
-lent : (f : ℕ → List ℕ → ℕ → ℕ) (s : List ℕ) (t at c b : ℕ) → at ≡ offsetIn s t → c ≡ countIn s t
-    → f c (take (length s - at) (drop at s)) b ≡ f (countIn s t) (drop (offsetIn s t) s) b
-lent f s t at c b first second =
-    ap₂ (λ (x : ℕ) (l : List ℕ). f x l b) second (to-the-end s at ∙ ap (λ (z : ℕ). drop z s) first)
 
 pub next-cursor-spec : {M : Type 1} → statement M
 unfolding cursorHeld

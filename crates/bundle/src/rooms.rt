@@ -1,4 +1,4 @@
-// Room needed, worked out in one place for the checks and for the work.
+// Room needed, worked out in one place for the checks and for the work. No entry points and for this crate alone.
 use field::inner::size;
 ghost use mathlib.Core.Path.{_≡_};
 ghost use Prim.Native.Nat.{_≤_};
@@ -6,7 +6,7 @@ ghost use Rattle.field.specs.Shape.{longest};
 ghost use Rattle.layout.specs.Blocks.{mostBlocks};
 ghost use Rattle.writer.specs.Rooms.{writeRoom, workRoom};
 
-// No entry point: n and B are those of a good shape.
+// n and B are those of a good shape.
 pub fn write_room(n: usize, blocks: usize) -> usize
     requires { ⌜ (n ≤ longest) × (blocks ≤ mostBlocks) ⌝ }
     ensures { λ r. ⌜ r ≡ writeRoom n blocks ⌝ }

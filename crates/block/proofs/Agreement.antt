@@ -20,14 +20,14 @@ use Rattle.poly.proofs.Every.{every-map}
 use Rattle.poly.proofs.Sieve.{sieve, sieve-true, sieve-distinct, sieve-length}
 use Rattle.poly.proofs.Sum.{total-ext, total-zero}
 use Rattle.poly.proofs.Symbols.{symbols-every}
-use Rattle.block.specs.Code.{symbolOf}
-use Rattle.block.specs.Decoding.{pointsOf}
-use Rattle.block.specs.Meeting.{polynomialOf, messageOf}
-use Rattle.block.specs.Message.{IsMessage}
-use Rattle.block.specs.Positions.{Inside}
-use Rattle.block.specs.Repeats.{Apart}
-use Rattle.block.proofs.Meeting.{message-polynomial, polynomial-long, polynomial-symbols}
-use Rattle.block.proofs.Points.{points-length, points-at, points-apart}
+use Rattle.code.specs.Code.{symbolOf}
+use Rattle.code.specs.Decoding.{pointsOf}
+use Rattle.code.specs.Meeting.{polynomialOf, messageOf}
+use Rattle.code.specs.Message.{IsMessage}
+use Rattle.code.specs.Positions.{Inside}
+use Rattle.code.specs.Repeats.{Apart}
+use Rattle.code.proofs.Meeting.{message-polynomial, polynomial-long, polynomial-symbols}
+use Rattle.code.proofs.Points.{points-length, points-at, points-apart}
 
 -- in how many of the positions two code words differ
 unfoldable pub differing : ℕ → List ℕ → List ℕ → List ℕ → ℕ

@@ -10,12 +10,12 @@ use lib.Dec.{eqb}
 use lib.ListN.{length, getD}
 use Rattle.field.proofs.Shape.{shape-good}
 use Rattle.poly.proofs.Sum.{total-ext, total-none, total-zero}
-use Rattle.block.specs.Altered.{alteredCount}
-use Rattle.block.specs.Code.{symbolOf}
-use Rattle.block.specs.Fits.{Fits}
-use Rattle.block.specs.Held.{Held}
-use Rattle.block.specs.Message.{IsMessage}
-use Rattle.block.specs.Ready.{Ready}
+use Rattle.code.specs.Altered.{alteredCount}
+use Rattle.code.specs.Code.{symbolOf}
+use Rattle.code.specs.Fits.{Fits}
+use Rattle.code.specs.Held.{Held}
+use Rattle.code.specs.Message.{IsMessage}
+use Rattle.code.specs.Ready.{Ready}
 use Rattle.block.proofs.Agreement.{differing, few-differ}
 
 module _ (k n : ℕ) (sent : List ℕ) (h : Held) where

@@ -8,8 +8,8 @@ use lib.ListN.{length, take, drop}
 use Rattle.field.specs.Leaves.{Leaves, left, written, zeroed}
 use Rattle.field.specs.Refusals.{Answer, result}
 use Rattle.field.proofs.Leaves.{lent-length, zeroed-part, zeroed-all}
-use Rattle.block.specs.Calls.{decoded}
-use Rattle.block.specs.Rooms.{decodeRoom}
+use Rattle.code.specs.Decoded.{decoded}
+use Rattle.code.specs.Rooms.{decodeRoom}
 
 -- the stated part, zeroed as a whole working space, and what lies behind it
 again-zeroed : (stated room : ℕ) (work : List ℕ) → stated ≡ room → room ≤ length work

@@ -15,12 +15,12 @@ use Rattle.field.specs.Values.{firstAbove}
 use Rattle.field.specs.declared.refusal.Refusal.{Refusal}
 use Rattle.field.specs.declared.refusal.Refusal.the-variants.{Shape, Length, Room, Few, Position, Repeat, Value, Disagree}
 use Rattle.field.proofs.Refusals.{result-no-refusal}
-use Rattle.block.specs.Calls.{decoded}
+use Rattle.code.specs.Decoded.{decoded}
 use Rattle.block.specs.Checks.{decodeChecks}
-use Rattle.block.specs.Held.{held}
-use Rattle.block.specs.Positions.{firstOutside}
-use Rattle.block.specs.Repeats.{firstRepeat}
-use Rattle.block.specs.Rooms.{decodeRoom}
+use Rattle.code.specs.Held.{held}
+use Rattle.code.specs.Positions.{firstOutside}
+use Rattle.code.specs.Repeats.{firstRepeat}
+use Rattle.code.specs.Rooms.{decodeRoom}
 
 -- an answer with another number than DISAGREE's, or with nothing as its result
 pub data Before : Answer → Type 0 where

@@ -1,11 +1,3 @@
-pub mod Meeting
-pub mod Points
-pub mod Decoding
-pub mod Interpolating
-pub mod Finding
-pub mod HeldWithin
-pub mod Recovering
-pub mod Spreading
 pub mod Bitmap
 pub mod Repeating
 pub mod Outside

@@ -15,12 +15,12 @@ use Rattle.field.specs.declared.refusal.Refusal.the-variants.{Shape, Length, Ro
 use Rattle.field.proofs.Checks.{passed, or-false}
 use Rattle.field.proofs.Values.{all-symbols, none-above}
 use Rattle.block.specs.Checks.{encodeChecks, decodeChecks}
-use Rattle.block.specs.Held.{held}
-use Rattle.block.specs.Positions.{firstOutside}
-use Rattle.block.specs.Codable.{Codable}
-use Rattle.block.specs.Ready.{Ready}
-use Rattle.block.specs.Repeats.{firstRepeat}
-use Rattle.block.specs.Rooms.{encodeRoom, decodeRoom}
+use Rattle.code.specs.Held.{held}
+use Rattle.code.specs.Positions.{firstOutside}
+use Rattle.code.specs.Codable.{Codable}
+use Rattle.code.specs.Ready.{Ready}
+use Rattle.code.specs.Repeats.{firstRepeat}
+use Rattle.code.specs.Rooms.{encodeRoom, decodeRoom}
 use Rattle.block.proofs.Outside.{outside-none, none-outside}
 use Rattle.block.proofs.Repeating.{repeat-none, none-repeat}
 

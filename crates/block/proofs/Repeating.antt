@@ -12,7 +12,7 @@ use lib.Dec.{eqb}
 use lib.ListN.{length, getD, replicate}
 use Rattle.field.proofs.First.{first-here, first-none, first-all, first-before}
 use Rattle.block.specs.Bitmap.{marked, withMark}
-use Rattle.block.specs.Repeats.{standsEarlier, firstRepeat}
+use Rattle.code.specs.Repeats.{standsEarlier, firstRepeat}
 use Rattle.block.proofs.Bitmap.{mark-same, mark-other, none-marked}
 
 module _ (positions : List ℕ) where

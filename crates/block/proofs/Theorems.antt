@@ -26,23 +26,24 @@ use Rattle.poly.specs.Tab.{tab}
 use Rattle.poly.specs.Value.{value}
 use Rattle.poly.proofs.Symbols.{tab-symbols}
 use Rattle.poly.proofs.Tab.{tab-length, tab-at}
-use Rattle.block.specs.Altered.{alteredCount}
-use Rattle.block.specs.Calls.{decoded, decodeLeaves}
+use Rattle.code.specs.Altered.{alteredCount}
+use Rattle.block.specs.Calls.{decodeLeaves}
+use Rattle.code.specs.Decoded.{decoded}
 use Rattle.block.specs.Checks.{encodeChecks, decodeChecks}
-use Rattle.block.specs.Code.{symbolOf, codeWord}
-use Rattle.block.specs.Decoding.{decodeOf}
-use Rattle.block.specs.Fits.{Fits}
-use Rattle.block.specs.Held.{held}
-use Rattle.block.specs.Meeting.{polynomialOf}
-use Rattle.block.specs.Message.{IsMessage}
-use Rattle.block.specs.Positions.{firstOutside}
-use Rattle.block.specs.Ready.{Ready}
-use Rattle.block.specs.Repeats.{standsEarlier, firstRepeat}
-use Rattle.block.specs.Rooms.{decodeRoom}
+use Rattle.code.specs.Code.{symbolOf, codeWord}
+use Rattle.code.specs.Decoding.{decodeOf}
+use Rattle.code.specs.Fits.{Fits}
+use Rattle.code.specs.Held.{held}
+use Rattle.code.specs.Meeting.{polynomialOf}
+use Rattle.code.specs.Message.{IsMessage}
+use Rattle.code.specs.Positions.{firstOutside}
+use Rattle.code.specs.Ready.{Ready}
+use Rattle.code.specs.Repeats.{standsEarlier, firstRepeat}
+use Rattle.code.specs.Rooms.{decodeRoom}
 use Rattle.block.specs.Theorems.{CodeWordSymbols, NeverAgree, FitsOne, DecodesFitting, DecodesNone, EncodeChecksPass, DecodeChecksPass, Decodes, Disagrees, EncodesWord, EncodeDecode, DisagreeExactly, Demand3, NeverAnother, WorkedNumbers, EncodeSettled, DecodeSettled}
 use Rattle.block.proofs.Agreement as Agreement
 use Rattle.block.proofs.Altering.{none-fits, fits-none, few-altered}
-use Rattle.block.proofs.Decoding as Decoding
+use Rattle.code.proofs.Decoding as Decoding
 use Rattle.block.proofs.Disagreeing.{checks-before, disagree-none}
 use Rattle.block.proofs.Passing.{encode-passed, encode-passes, decode-passed, decode-passes}
 

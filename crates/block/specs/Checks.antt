@@ -8,10 +8,10 @@ use Rattle.field.specs.Refusals.{Answer, result, refuseIf}
 use Rattle.field.specs.Shape.{badShape}
 use Rattle.field.specs.Values.{refuseAbove}
 use Rattle.field.specs.declared.refusal.Refusal.the-variants.{Shape, Length, Room, Few, Position, Repeat}
-use Rattle.block.specs.Held.{held, heldCount}
-use Rattle.block.specs.Positions.{firstOutside}
-use Rattle.block.specs.Repeats.{firstRepeat}
-use Rattle.block.specs.Rooms.{encodeRoom, decodeRoom}
+use Rattle.code.specs.Held.{held, heldCount}
+use Rattle.code.specs.Positions.{firstOutside}
+use Rattle.code.specs.Repeats.{firstRepeat}
+use Rattle.code.specs.Rooms.{encodeRoom, decodeRoom}
 
 -- out and work are the lengths of the output and of the working space
 

@@ -12,19 +12,19 @@ use Rattle.field.specs.Shape.{longest, badShape}
 use Rattle.field.specs.Symbol.{Symbols}
 use Rattle.field.specs.declared.refusal.Refusal.the-variants.{Disagree}
 use Rattle.poly.specs.Tab.{tab}
-use Rattle.block.specs.Altered.{alteredCount}
+use Rattle.code.specs.Altered.{alteredCount}
 use Rattle.block.specs.Calls.{encodeLeaves, decodeLeaves}
 use Rattle.block.specs.Checks.{encodeChecks, decodeChecks}
-use Rattle.block.specs.Code.{symbolOf, codeWord}
-use Rattle.block.specs.Decoding.{decodeOf}
-use Rattle.block.specs.Fits.{Fits}
-use Rattle.block.specs.Held.{Held, held, heldCount}
-use Rattle.block.specs.Message.{IsMessage}
-use Rattle.block.specs.Positions.{Inside}
-use Rattle.block.specs.Codable.{Codable}
-use Rattle.block.specs.Ready.{Ready}
-use Rattle.block.specs.Repeats.{Apart}
-use Rattle.block.specs.Rooms.{encodeRoom, decodeRoom}
+use Rattle.code.specs.Code.{symbolOf, codeWord}
+use Rattle.code.specs.Decoding.{decodeOf}
+use Rattle.code.specs.Fits.{Fits}
+use Rattle.code.specs.Held.{Held, held, heldCount}
+use Rattle.code.specs.Message.{IsMessage}
+use Rattle.code.specs.Positions.{Inside}
+use Rattle.code.specs.Codable.{Codable}
+use Rattle.code.specs.Ready.{Ready}
+use Rattle.code.specs.Repeats.{Apart}
+use Rattle.code.specs.Rooms.{encodeRoom, decodeRoom}
 
 -- The code
 

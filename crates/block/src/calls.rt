@@ -1,10 +1,11 @@
 // The entry points: they test their input and refuse by document 01's numbers. Refusals 1 to 7 come before anything lent is written, DISAGREE
 // after the work, with the stated working space cleared.
 use crate::checks;
-use crate::inner;
 use crate::rooms::decode_room;
 use crate::rooms::encode_room;
+use code::inner::spread;
 use field::Outcome;
+use newton::inner::recover;
 ghost use mathlib.Core.Path.{_≡_};
 ghost use Rattle.field.specs.Leaves.{left};
 ghost use Rattle.field.specs.Refusals.{toldOutcome};
@@ -17,7 +18,7 @@ pub fn encode(k: usize, n: usize, message: &[u32], out: &mut [u32], work: &mut [
     match checks::encode_checks(k, n, message, out.len(), work.len()) {
         Outcome::Done => {
             let stated = encode_room(n);
-            inner::spread(n, message, out, &mut work[0..stated]);
+            spread(n, message, out, &mut work[0..stated]);
             Outcome::Done
         }
         Outcome::Refused(refusal) => Outcome::Refused(refusal),
@@ -38,7 +39,7 @@ pub fn decode(
     match checks::decode_checks(k, n, positions, values, out.len(), work.len()) {
         Outcome::Done => {
             let stated = decode_room(n);
-            inner::recover(k, n, positions, values, out, &mut work[0..stated])
+            recover(k, n, positions, values, out, &mut work[0..stated])
         }
         Outcome::Refused(refusal) => Outcome::Refused(refusal),
     }

@@ -11,7 +11,7 @@ use field::inner::too_short;
 ghost use mathlib.Core.Path.{_≡_};
 ghost use Rattle.field.specs.Refusals.{toldOutcome};
 ghost use Rattle.block.specs.Checks.{encodeChecks, decodeChecks};
-ghost use Rattle.block.specs.Positions.{firstOutside};
+ghost use Rattle.code.specs.Positions.{firstOutside};
 
 // The index of the first position that is n or more, the list's length where none is.
 fn first_outside(n: usize, positions: &[u32]) -> usize

@@ -7,8 +7,8 @@ ghost use Prim.Native.Nat.{_/_, _%_, _^_, _<_};
 ghost use lib.ListN.{length};
 ghost use Rattle.field.specs.Shape.{longest};
 ghost use Rattle.block.specs.Bitmap.{marked, withMark};
-ghost use Rattle.block.specs.Positions.{Inside};
-ghost use Rattle.block.specs.Repeats.{firstRepeat};
+ghost use Rattle.code.specs.Positions.{Inside};
+ghost use Rattle.code.specs.Repeats.{firstRepeat};
 
 // One bit for each position that a block can have, 32 to a cell.
 const CELLS: usize = LONGEST / 32;

@@ -1,7 +1,7 @@
 // Room needed, worked out in one place for the checks and for the work.
 use field::inner::size;
 ghost use mathlib.Core.Path.{_≡_};
-ghost use Rattle.block.specs.Rooms.{encodeRoom, decodeRoom};
+ghost use Rattle.code.specs.Rooms.{encodeRoom, decodeRoom};
 
 pub fn encode_room(n: usize) -> usize
     ensures { λ r. ⌜ r ≡ encodeRoom n ⌝ }

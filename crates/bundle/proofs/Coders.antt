@@ -19,30 +19,30 @@ use Rattle.field.specs.Size.{levelOf, sizeOf}
 use Rattle.field.proofs.Refusals.{result-no-refusal}
 use Rattle.poly.specs.Tab.{tab}
 use Rattle.poly.specs.Value.{value}
-use Rattle.block.specs.Code.{symbolOf, codeWord}
-use Rattle.block.specs.Meeting.{polynomialOf}
-use Rattle.block.specs.Message.{IsMessage}
-use Rattle.block.specs.Rooms.{encodeRoom, decodeRoom}
+use Rattle.code.specs.Code.{symbolOf, codeWord}
+use Rattle.code.specs.Meeting.{polynomialOf}
+use Rattle.code.specs.Message.{IsMessage}
+use Rattle.code.specs.Rooms.{encodeRoom, decodeRoom}
 use Rattle.block.specs.Theorems.{Encodes, Decodes}
 use Rattle.block.proofs.Theorems.{encodes-word, encode-decode}
-use Rattle.layout.specs.Blocks.{blocksOf, longestFile, mostBlocks, badBundleShape}
-use Rattle.layout.specs.Bytes.{Bytes, two, four, inBytes, twoAt}
+use Rattle.storage.specs.Blocks.{blocksOf, longestFile, mostBlocks, badBundleShape}
+use Rattle.storage.specs.Bytes.{Bytes, two, four, inBytes, twoAt}
 use Rattle.layout.specs.Fields.{lengthIn, entryAt, countIn}
 use Rattle.layout.specs.Held.{upTo}
 use Rattle.layout.specs.Mark.{mark}
 use Rattle.layout.specs.Shadows.{headerSize, entrySize, firstBody, header, entry, table, bodies, bundleOf}
-use Rattle.layout.specs.Storage.{overflows, wordOf, bodyOf}
+use Rattle.storage.specs.Storage.{overflows, wordOf, bodyOf}
 use Rattle.layout.proofs.Accepting.{passes, read-L, bundle-length}
-use Rattle.layout.proofs.BytesLaws.{two-alike, four-alike, alike-front}
+use Rattle.storage.proofs.BytesLaws.{two-alike, four-alike, alike-front}
 use Rattle.layout.proofs.Holding.{all-length}
 use Rattle.layout.proofs.Passing.{entry-there}
-use Rattle.writer.specs.File.{padded, messageAt, symbolAt, countAt, shadowOf, bundleAt, fileBundle}
-use Rattle.writer.specs.Rooms.{writeRoom, workRoom}
+use Rattle.words.specs.File.{padded, messageAt, symbolAt, countAt, shadowOf, bundleAt, fileBundle}
+use Rattle.layout.specs.Rooms.{writeRoom, workRoom}
 use Rattle.bundle.specs.Useless.{Coder, KeepsEncode, KeepsDecode, KeepsWrite, KeepsRead, Refused, AnswersSome, NotConstant, WritesSomething, CodesLaterBlocks, InventsNothing, Useless}
 use Rattle.writer.proofs.Bundling.{file-is-bundle, held-all, all-rise, bundle-count}
 use Rattle.bundle.proofs.Demands.{writes-bundle, write-read}
 use Rattle.bundle.proofs.Shadowing.{bundle-bytes}
-use Rattle.writer.proofs.Padding.{zeros-behind}
+use Rattle.words.proofs.Padding.{zeros-behind}
 
 -- a call left a result, and x at a place of the list that takes it
 record Told (it : Leaves) (place x : ℕ) : Type 0 where

@@ -11,7 +11,7 @@ use Rattle.field.specs.Refusals.{refused}
 use Rattle.field.specs.declared.refusal.Refusal.the-variants.{Disagree}
 use Rattle.field.proofs.Leaves.{leaves-done}
 use Rattle.field.proofs.Refusals.{result-no-refusal}
-use Rattle.block.specs.Altered.{alteredCount}
+use Rattle.code.specs.Altered.{alteredCount}
 use Rattle.block.proofs.Theorems.{decodes-none}
 use Rattle.layout.specs.Fields.{kIn, nIn, heldIn, blocksIn}
 use Rattle.layout.specs.Held.{upTo, IsBundle}
@@ -19,10 +19,11 @@ use Rattle.layout.specs.Shadows.{Shadow}
 use Rattle.layout.proofs.Accepting.{passes, read-k, read-n, read-L, read-blocks}
 use Rattle.layout.proofs.Holding.{limits, all-length}
 use Rattle.bundle.specs.Checks.{writeChecks}
-use Rattle.writer.specs.File.{messageAt, shadowOf, bundleAt, fileBundle}
-use Rattle.bundle.specs.Reading.{heldAt, decodedAt}
+use Rattle.words.specs.File.{messageAt, shadowOf, bundleAt, fileBundle}
+use Rattle.reader.specs.Reading.{heldAt, decodedAt}
 use Rattle.bundle.specs.Theorems.{WritesBundle, WriteRead, LoseRead, DisagreeExactly, NeverAnother, TakenIsSent}
-use Rattle.bundle.proofs.HeldBlocks.{ready, block-disagrees}
+use Rattle.bundle.proofs.BlockAnswers.{block-disagrees}
+use Rattle.reader.proofs.HeldBlocks.{ready}
 use Rattle.bundle.proofs.Passing.{write-passes, after-passed, after-disagree, read-before, read-passed}
 use Rattle.writer.proofs.Bundling.{file-is-bundle, held-all, all-rise}
 use Rattle.bundle.proofs.Shadowing.{bundle-bytes, none-altered}

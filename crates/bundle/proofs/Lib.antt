@@ -1,7 +1,6 @@
-pub mod Searching
 pub mod Tails
 pub mod Passing
-pub mod HeldBlocks
+pub mod BlockAnswers
 pub mod Walking
 pub mod Taking
 pub mod Shadowing
@@ -10,7 +9,4 @@ pub mod Demands
 pub mod Worked
 pub mod Coders
 pub mod Theorems
-pub mod MessageBytes
-pub mod Gathered
-pub mod BlockReading
 pub mod ReadLeaving

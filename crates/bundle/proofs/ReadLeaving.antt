@@ -16,8 +16,8 @@ use Rattle.field.proofs.Leaves.{lent-length, zeroed-part, zeroed-all}
 use Rattle.layout.specs.Facts.{after}
 use Rattle.layout.specs.Fields.{nIn, lengthIn, blocksIn}
 use Rattle.bundle.specs.Calls.{blocksLeave}
-use Rattle.bundle.specs.Reading.{blocksAnswer, bytesBefore, fileIn}
-use Rattle.writer.specs.Rooms.{workRoom}
+use Rattle.reader.specs.Reading.{blocksAnswer, bytesBefore, fileIn}
+use Rattle.layout.specs.Rooms.{workRoom}
 
 -- all there is is written
 written-all : (vs list : List ℕ) → length list ≤ length vs → written vs list ≡ vs

@@ -11,24 +11,24 @@ use lib.Dec.{leb}
 use lib.ListN.{length, getD}
 use Rattle.field.specs.First.{first}
 use Rattle.field.proofs.First.{first-before}
-use Rattle.block.specs.Altered.{alteredCount}
-use Rattle.block.specs.Code.{symbolOf}
+use Rattle.code.specs.Altered.{alteredCount}
+use Rattle.code.specs.Code.{symbolOf}
 use Rattle.block.proofs.Altering.{fits-none}
-use Rattle.layout.specs.Blocks.{blocksOf, badBundleShape}
-use Rattle.layout.specs.Bytes.{Bytes, two, four}
+use Rattle.storage.specs.Blocks.{blocksOf, badBundleShape}
+use Rattle.storage.specs.Bytes.{Bytes, two, four}
 use Rattle.layout.specs.Fields.{heldIn}
 use Rattle.layout.specs.Held.{AllStored, IsBundle}
 use Rattle.layout.specs.Mark.{mark}
 use Rattle.layout.specs.Shadows.{Shadow, firstBody, header, entry, table, bodies, bundleOf}
-use Rattle.layout.specs.Storage.{symbolIn}
-use Rattle.layout.proofs.BytesLaws.{bytes-append, two-bytes, four-bytes}
+use Rattle.storage.specs.Storage.{symbolIn}
+use Rattle.storage.proofs.BytesLaws.{bytes-append, two-bytes, four-bytes}
 use Rattle.layout.proofs.Passing.{bundle-shape-told}
-use Rattle.layout.proofs.Theorems.{body-stores}
-use Rattle.writer.specs.File.{Rising, messageAt, symbolAt, bundleAt}
-use Rattle.bundle.specs.Reading.{symbolHeld, heldAt}
-use Rattle.writer.proofs.Padding.{message-is}
+use Rattle.storage.proofs.Theorems.{body-stores}
+use Rattle.words.specs.File.{Rising, messageAt, symbolAt, bundleAt}
+use Rattle.reader.specs.Reading.{symbolHeld, heldAt}
+use Rattle.words.proofs.Padding.{message-is}
 use Rattle.writer.proofs.Bundling.{symbol-small, held-all, position-held, count-held, body-held}
-use Rattle.bundle.proofs.HeldBlocks.{held-count, held-position, held-value}
+use Rattle.reader.proofs.HeldBlocks.{held-count, held-position, held-value}
 
 -- A bundle's numbers are bytes
 

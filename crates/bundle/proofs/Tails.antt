@@ -9,12 +9,12 @@ use borrow.Author.Tests.{eq-eqb, ne-eqb}
 use lib.Dec.{eqb}
 use lib.ListN.{length, getD, drop, length-drop, List·getD-eq-default}
 use lib.Seq.{getD-drop}
-use Rattle.layout.specs.Bytes.{Bytes, inBytes}
-use Rattle.layout.proofs.BytesLaws.{in-bytes-length, two-lt}
-use Rattle.writer.specs.File.{padded, messageAt}
-use Rattle.writer.proofs.Padding.{padded-at, padded-bytes, message-at, message-length, bytes-at}
-use Rattle.bundle.specs.Reading.{badWord, badTail}
-use Rattle.bundle.proofs.Searching.{meets-none}
+use Rattle.storage.specs.Bytes.{Bytes, inBytes}
+use Rattle.storage.proofs.BytesLaws.{in-bytes-length, two-lt}
+use Rattle.words.specs.File.{padded, messageAt}
+use Rattle.words.proofs.Padding.{padded-at, padded-bytes, message-at, message-length, bytes-at}
+use Rattle.reader.specs.Reading.{badWord, badTail}
+use Rattle.reader.proofs.Searching.{meets-none}
 
 module _ (k : ℕ) (file : List ℕ) (bytes : Bytes file) (b : ℕ) where
   pub word-good : badWord (messageAt k file b) ≡ false

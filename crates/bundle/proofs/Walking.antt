@@ -16,8 +16,8 @@ use Rattle.layout.specs.Facts.{after}
 use Rattle.layout.specs.Fields.{lengthIn, blocksIn}
 use Rattle.bundle.specs.Calls.{blocksLeave, readLeaves}
 use Rattle.bundle.specs.Checks.{readChecks}
-use Rattle.bundle.specs.Reading.{decodedAt, blockAnswer, blocksAnswer}
-use Rattle.bundle.proofs.HeldBlocks.{block-result, disagrees-none}
+use Rattle.reader.specs.Reading.{decodedAt, blockAnswer, blocksAnswer}
+use Rattle.bundle.proofs.BlockAnswers.{block-result, disagrees-none}
 
 module _ (s : List ℕ) where
   pub all-taken : (left b : ℕ) → ((c : ℕ) → b ≤ c → c < b + left → blockAnswer s c ≡ result [])

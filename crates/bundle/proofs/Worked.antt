@@ -19,33 +19,33 @@ use Rattle.field.specs.declared.refusal.Refusal.the-variants.{Tail, Form}
 use Rattle.poly.specs.Sum.{total}
 use Rattle.poly.specs.Tab.{tab}
 use Rattle.poly.specs.Value.{value}
-use Rattle.transform.proofs.Theorems as Transform
-use Rattle.block.specs.Altered.{alteredCount}
-use Rattle.block.specs.Code.{symbolOf}
-use Rattle.block.specs.Held.{held}
-use Rattle.block.specs.Meeting.{polynomialOf}
-use Rattle.block.specs.Message.{IsMessage}
+use Rattle.halving.proofs.Theorems as Transform
+use Rattle.code.specs.Altered.{alteredCount}
+use Rattle.code.specs.Code.{symbolOf}
+use Rattle.code.specs.Held.{held}
+use Rattle.code.specs.Meeting.{polynomialOf}
+use Rattle.code.specs.Message.{IsMessage}
 use Rattle.block.proofs.Altering.{none-fits}
 use Rattle.block.proofs.Theorems.{decodes-fitting, worked-numbers}
-use Rattle.layout.specs.Blocks.{blocksOf, longestFile, mostBlocks, badBundleShape}
-use Rattle.layout.specs.Bytes.{Bytes, two, four, inBytes, twoAt, fourAt}
+use Rattle.storage.specs.Blocks.{blocksOf, longestFile, mostBlocks, badBundleShape}
+use Rattle.storage.specs.Bytes.{Bytes, two, four, inBytes, twoAt, fourAt}
 use Rattle.layout.specs.Facts.{after}
 use Rattle.layout.specs.Fields.{kIn, nIn, lengthIn, heldIn, lastIn, blocksIn, entryAt, positionIn, countIn, offsetIn}
 use Rattle.layout.specs.Held.{upTo}
 use Rattle.layout.specs.Layout.{badFront, startOf, badEntry, restGood, layoutChecks}
 use Rattle.layout.specs.Mark.{mark, startsWith}
-use Rattle.layout.specs.Rising.{least, outOfOrder, rises}
+use Rattle.storage.specs.Rising.{least, outOfOrder, rises}
 use Rattle.layout.specs.Shadows.{headerSize, entrySize, firstBody, header, entry, table, bodies, bundleOf}
-use Rattle.layout.specs.Storage.{overflows, wordOf, countOf, bodyOf, bodySize, listAt, bodyGood, listed, symbolIn}
+use Rattle.storage.specs.Storage.{overflows, wordOf, countOf, bodyOf, bodySize, listAt, bodyGood, listed, symbolIn}
 use Rattle.bundle.specs.Calls.{blocksLeave, readLeaves}
 use Rattle.bundle.specs.Checks.{roomChecks, readChecks}
-use Rattle.writer.specs.File.{padded, messageAt, symbolAt, shadowOf, bundleAt, fileBundle}
-use Rattle.bundle.specs.Reading.{symbolHeld, heldAt, decodedAt, some-meets, badWord, badTail, judged, blockAnswer, blocksAnswer}
+use Rattle.words.specs.File.{padded, messageAt, symbolAt, shadowOf, bundleAt, fileBundle}
+use Rattle.reader.specs.Reading.{symbolHeld, heldAt, decodedAt, some-meets, badWord, badTail, judged, blockAnswer, blocksAnswer}
 use Rattle.bundle.specs.Theorems.{Writes, Reads, Refuses}
 use Rattle.bundle.specs.Worked.{file11, bundle11, bundle12, WorkedTable}
 use Rattle.bundle.proofs.Demands.{writes-bundle, write-read}
-use Rattle.bundle.proofs.HeldBlocks.{ready}
-use Rattle.writer.proofs.Padding.{message-is}
+use Rattle.reader.proofs.HeldBlocks.{ready}
+use Rattle.words.proofs.Padding.{message-is}
 use Rattle.bundle.proofs.Passing.{read-passes}
 use Rattle.bundle.proofs.Shadowing.{all-bytes}
 use Rattle.bundle.proofs.Walking.{first-refused, read-leaves}

@@ -6,9 +6,9 @@ use Rattle.field.specs.Leaves.{Leaves, left, unlessRefused, written, zeroed}
 use Rattle.field.specs.Refusals.{Answer, result, refusal}
 use Rattle.layout.specs.Fields.{nIn, lengthIn, blocksIn}
 use Rattle.bundle.specs.Checks.{writeChecks, readChecks}
-use Rattle.writer.specs.File.{fileBundle}
-use Rattle.bundle.specs.Reading.{blocksAnswer, fileIn}
-use Rattle.writer.specs.Rooms.{workRoom}
+use Rattle.words.specs.File.{fileBundle}
+use Rattle.reader.specs.Reading.{blocksAnswer, fileIn}
+use Rattle.layout.specs.Rooms.{workRoom}
 
 abbrev pub writeLeaves : ℕ → ℕ → List ℕ → List ℕ → List ℕ → Leaves
 writeLeaves k n file out work =

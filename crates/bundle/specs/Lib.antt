@@ -1,5 +1,3 @@
-pub mod Reading
-pub mod Gathering
 pub mod Answers
 pub mod Checks
 pub mod Calls

@@ -9,19 +9,19 @@ use Rattle.field.specs.Leaves.{left, written, zeroed}
 use Rattle.field.specs.Refusals.{result, refused}
 use Rattle.field.specs.declared.refusal.Refusal.{Refusal}
 use Rattle.field.specs.declared.refusal.Refusal.the-variants.{Disagree}
-use Rattle.block.specs.Altered.{alteredCount}
-use Rattle.block.specs.Fits.{Fits}
-use Rattle.layout.specs.Blocks.{blocksOf, badBundleShape}
-use Rattle.layout.specs.Bytes.{Bytes}
+use Rattle.code.specs.Altered.{alteredCount}
+use Rattle.code.specs.Fits.{Fits}
+use Rattle.storage.specs.Blocks.{blocksOf, badBundleShape}
+use Rattle.storage.specs.Bytes.{Bytes}
 use Rattle.layout.specs.Fields.{kIn, nIn, lengthIn, heldIn, blocksIn}
 use Rattle.layout.specs.Held.{IsBundle}
 use Rattle.layout.specs.Layout.{layoutChecks}
 use Rattle.bundle.specs.Answers.{Settled}
 use Rattle.bundle.specs.Calls.{writeLeaves, readLeaves}
 use Rattle.bundle.specs.Checks.{readChecks}
-use Rattle.writer.specs.File.{Rising, messageAt, shadowOf, bundleAt, fileBundle}
-use Rattle.bundle.specs.Reading.{heldAt, blockAnswer}
-use Rattle.writer.specs.Rooms.{writeRoom, workRoom}
+use Rattle.words.specs.File.{Rising, messageAt, shadowOf, bundleAt, fileBundle}
+use Rattle.reader.specs.Reading.{heldAt, blockAnswer}
+use Rattle.layout.specs.Rooms.{writeRoom, workRoom}
 
 -- The calls: what they leave, given room
 

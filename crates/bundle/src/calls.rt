@@ -3,8 +3,8 @@
 use crate::answer::LengthAnswer;
 use crate::checks::read_checks;
 use crate::checks::write_checks;
-use crate::reader::read_all;
 use crate::rooms::work_room;
+use crate::whole::read_all;
 use field::Outcome;
 use layout::inner::length_in;
 use layout::inner::n_in;

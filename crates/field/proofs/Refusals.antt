@@ -5,13 +5,7 @@ use mathlib.Core.List.{List, [], _∷_}
 use Prim.Native.Nat.{ℕ, pred}
 use native.Mathlib.Omega.{arith}
 use lib.ListN.{getD}
-use Rattle.field.specs.Operations.{told}
-use Rattle.field.specs.Points.{toldPoint}
 use Rattle.field.specs.Refusals.{Answer, result, refusal, refused, numberOf, placeOf, toldOutcome}
-use Rattle.field.specs.declared.operations.SymbolAnswer.{SymbolAnswer}
-use Rattle.field.specs.declared.operations.SymbolAnswer.the-variants.{Symbol, Refused}
-use Rattle.field.specs.declared.points.PointAnswer.{PointAnswer}
-use Rattle.field.specs.declared.points.PointAnswer.the-variants as P
 use Rattle.field.specs.declared.refusal.Outcome.{Outcome}
 use Rattle.field.specs.declared.refusal.Outcome.the-variants as O
 use Rattle.field.specs.declared.refusal.Refusal.{Refusal}
@@ -46,18 +40,6 @@ refusals-told x y e = sym (named-told x) ∙ ap unfold-told e ∙ named-told y
 
 pub result-no-refusal : {vs : List ℕ} {n i : ℕ} → result vs ≡ refusal n i → ⊥
 result-no-refusal e = let z : _≡_ {A = ℕ} 0 1 = cc in omega arith
-
-pub told-one : (r s : SymbolAnswer) → told r ≡ told s → r ≡ s
-told-one (Symbol u) (Symbol v) e = cc
-told-one (Symbol u) (Refused y) e = absurd (result-no-refusal e)
-told-one (Refused x) (Symbol v) e = absurd (result-no-refusal (sym e))
-told-one (Refused x) (Refused y) e = ap Refused (refusals-told x y e)
-
-pub told-point-one : (r s : PointAnswer) → toldPoint r ≡ toldPoint s → r ≡ s
-told-point-one (P.Point u) (P.Point v) e = let same : u .0 ≡ v .0 = cc in ap (λ (w : ℕ). P.Point (record { 0 = w })) same
-told-point-one (P.Point u) (P.Refused y) e = absurd (result-no-refusal e)
-told-point-one (P.Refused x) (P.Point v) e = absurd (result-no-refusal (sym e))
-told-point-one (P.Refused x) (P.Refused y) e = ap P.Refused (refusals-told x y e)
 
 pub told-outcome-one : (r s : Outcome) → toldOutcome r ≡ toldOutcome s → r ≡ s
 told-outcome-one O.Done O.Done e = refl

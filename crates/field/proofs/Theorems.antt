@@ -11,8 +11,7 @@ use Rattle.field.specs.Field.{product, power}
 use Rattle.field.specs.Points.{rootOf, pointOf}
 use Rattle.field.specs.Roots.{root}
 use Rattle.field.specs.Size.{levelOf, sizeOf}
-use Rattle.field.specs.Refusals.{Answer}
-use Rattle.field.specs.Theorems.{CommutativeRing, Inverses, NoZeroDivisors, RootSquares, RootPowers, RootOrders, RootHalves, RootPowersDistinct, SizeSmallest, RootOfSize, PointsDistinct, RefusalsTold, NumberSettled, PlaceSettled, SymbolSettled, Settled, SumSettled, DifferenceSettled, ProductSettled, PowerSettled, InverseSettled, PointSettled}
+use Rattle.field.specs.Theorems.{CommutativeRing, Inverses, NoZeroDivisors, RootSquares, RootPowers, RootOrders, RootHalves, RootPowersDistinct, SizeSmallest, RootOfSize, PointsDistinct, RefusalsTold, NumberSettled, PlaceSettled, SymbolSettled}
 use Rattle.field.proofs.Congruence.{reduced}
 use Rattle.field.proofs.Fermat.{inverse-≈, no-divisors}
 use Rattle.field.proofs.Refusals as R
@@ -95,24 +94,3 @@ place-settled x r s p q = p ∙ sym q
 
 pub symbol-settled : SymbolSettled
 symbol-settled v r s p q = p .is ∙ sym (q .is)
-
-settled : (t : Answer) → Settled t
-settled t r s p q = R.told-one r s (p ∙ sym q)
-
-pub sum-settled : SumSettled
-sum-settled a b = settled _
-
-pub difference-settled : DifferenceSettled
-difference-settled a b = settled _
-
-pub product-settled : ProductSettled
-product-settled a b = settled _
-
-pub power-settled : PowerSettled
-power-settled x n = settled _
-
-pub inverse-settled : InverseSettled
-inverse-settled x = settled _
-
-pub point-settled : PointSettled
-point-settled n i r s p q = R.told-point-one r s (p ∙ sym q)

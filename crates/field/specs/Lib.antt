@@ -6,7 +6,6 @@ pub mod Refusals
 pub mod Leaves
 pub mod First
 pub mod Values
-pub mod Operations
 pub mod Size
 pub mod Shape
 pub mod Points

@@ -3,14 +3,11 @@ use mathlib.Core.Path.{_≡_}
 use mathlib.Core.Logic.{_⊎_}
 use Prim.Native.Nat.{ℕ, suc, _-_, _^_, _<_, _≤_}
 use Rattle.field.specs.Field.{sum, difference, product, power, inverse}
-use Rattle.field.specs.Operations.{told, sumAnswer, differenceAnswer, productAnswer, powerAnswer, inverseAnswer}
-use Rattle.field.specs.Points.{rootOf, pointOf, toldPoint, pointAnswer}
-use Rattle.field.specs.Refusals.{Answer, refused, numberOf, placeOf}
+use Rattle.field.specs.Points.{rootOf, pointOf}
+use Rattle.field.specs.Refusals.{refused, numberOf, placeOf}
 use Rattle.field.specs.Roots.{root, HasOrder}
 use Rattle.field.specs.Size.{sizeOf}
 use Rattle.field.specs.Symbol.{IsSymbol}
-use Rattle.field.specs.declared.operations.SymbolAnswer.{SymbolAnswer}
-use Rattle.field.specs.declared.points.PointAnswer.{PointAnswer}
 use Rattle.field.specs.declared.refusal.Refusal.{Refusal}
 
 -- The field is a commutative ring
@@ -86,25 +83,3 @@ PlaceSettled = (x : Refusal) (r s : ℕ) → r ≡ placeOf x → s ≡ placeOf x
 -- what an inner function promises of a symbol settles it too
 abbrev pub SymbolSettled : Type 0
 SymbolSettled = (v r s : ℕ) → IsSymbol r v → IsSymbol s v → r ≡ s
-
--- two answers that tell the same are equal
-abbrev pub Settled : Answer → Type 0
-Settled t = (r s : SymbolAnswer) → told r ≡ t → told s ≡ t → r ≡ s
-
-abbrev pub SumSettled : Type 0
-SumSettled = (a b : ℕ) → Settled (sumAnswer a b)
-
-abbrev pub DifferenceSettled : Type 0
-DifferenceSettled = (a b : ℕ) → Settled (differenceAnswer a b)
-
-abbrev pub ProductSettled : Type 0
-ProductSettled = (a b : ℕ) → Settled (productAnswer a b)
-
-abbrev pub PowerSettled : Type 0
-PowerSettled = (x e : ℕ) → Settled (powerAnswer x e)
-
-abbrev pub InverseSettled : Type 0
-InverseSettled = (x : ℕ) → Settled (inverseAnswer x)
-
-abbrev pub PointSettled : Type 0
-PointSettled = (n i : ℕ) (r s : PointAnswer) → toldPoint r ≡ pointAnswer n i → toldPoint s ≡ pointAnswer n i → r ≡ s

@@ -11,16 +11,16 @@ use lib.ListN.{length, getD, take, drop, length-map, take-append-drop, drop-of-l
 use lib.Seq.{length-take-le, getD-take, ext-getD, drop-drop}
 use Rattle.field.specs.Refusals.{result}
 use Rattle.poly.specs.Tab.{tab}
-use Rattle.layout.specs.Bytes.{Bytes, two, four}
+use Rattle.storage.specs.Bytes.{Bytes, two, four}
 use Rattle.layout.specs.Fields.{kIn, nIn, lengthIn, heldIn, lastIn, blocksIn, entryAt, positionIn, countIn, offsetIn}
 use Rattle.layout.specs.Held.{upTo, shadowIn, shadowsIn, positionsOf, Stored, AllStored, IsBundle}
 use Rattle.layout.specs.Layout.{startOf, layoutChecks}
 use Rattle.layout.specs.Mark.{mark, startsWith}
 use Rattle.layout.specs.Shadows.{Shadow, headerSize, entrySize, firstBody, header, entry, table, bodies, bundleOf}
-use Rattle.layout.specs.Storage.{bodySize}
-use Rattle.layout.proofs.BytesLaws.{alike-take, bytes-take, bytes-drop, two-split, four-split}
-use Rattle.layout.proofs.RisingLaws.{none-found, rises-same}
-use Rattle.layout.proofs.Storing.{good-parts, good-moved}
+use Rattle.storage.specs.Storage.{bodySize}
+use Rattle.storage.proofs.BytesLaws.{alike-take, bytes-take, bytes-drop, two-split, four-split}
+use Rattle.storage.proofs.RisingLaws.{none-found, rises-same}
+use Rattle.storage.proofs.Storing.{good-parts, good-moved}
 use Rattle.layout.proofs.Passing.{tests-passed, header-inside, begins-with-mark, ends-header, table-inside, bodies-end, offset-is-start, body-passed, positions-rise}
 use Rattle.layout.proofs.Holding.{position-at, made-at, made-stored, all-length, all-at}
 

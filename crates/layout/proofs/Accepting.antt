@@ -11,17 +11,17 @@ use lib.ListN.{length, getD, take, drop, length-append}
 use lib.Seq.{take-at}
 use Rattle.field.specs.First.{first}
 use Rattle.field.specs.Refusals.{result}
-use Rattle.layout.specs.Blocks.{blocksOf}
-use Rattle.layout.specs.Bytes.{two, four, twoAt, fourAt}
+use Rattle.storage.specs.Blocks.{blocksOf}
+use Rattle.storage.specs.Bytes.{two, four, twoAt, fourAt}
 use Rattle.layout.specs.Fields.{kIn, nIn, lengthIn, heldIn, lastIn, blocksIn, entryAt, positionIn, countIn, offsetIn}
 use Rattle.layout.specs.Held.{upTo, shadowIn, shadowsIn, Stored, IsBundle}
 use Rattle.layout.specs.Layout.{badFront, startOf, badEntry, restGood, layoutChecks}
 use Rattle.layout.specs.Mark.{mark, startsWith}
 use Rattle.layout.specs.Shadows.{Shadow, headerSize, entrySize, firstBody, header, entry, table, bodies, bundleOf}
-use Rattle.layout.specs.Storage.{bodySize, bodyGood}
-use Rattle.layout.proofs.BytesLaws.{Alike, alike-on, alike-past, alike-front, two-alike, four-alike}
-use Rattle.layout.proofs.RisingLaws.{InOrder, rises-in-order, rising-count, rises-same, not-out}
-use Rattle.layout.proofs.Storing.{good-parts, good-moved}
+use Rattle.storage.specs.Storage.{bodySize, bodyGood}
+use Rattle.storage.proofs.BytesLaws.{Alike, alike-on, alike-past, alike-front, two-alike, four-alike}
+use Rattle.storage.proofs.RisingLaws.{InOrder, rises-in-order, rising-count, rises-same, not-out}
+use Rattle.storage.proofs.Storing.{good-parts, good-moved}
 use Rattle.layout.proofs.Entries.{bad-body, rest-is}
 use Rattle.layout.proofs.Passing.{tests-pass}
 use Rattle.layout.proofs.Holding.{limits, shadowAt, position-at, stored-at, shadows-are, offsetOf, offset-next, offset-end, body-there, table-length, entry-there}

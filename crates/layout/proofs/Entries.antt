@@ -13,11 +13,11 @@ use lib.ListN.{length, drop, length-drop}
 use Rattle.field.proofs.Checks.{or-false}
 use Rattle.layout.specs.Fields.{nIn, heldIn, blocksIn, entryAt, positionIn, countIn, offsetIn}
 use Rattle.layout.specs.Layout.{startOf, badEntry, restGood}
-use Rattle.layout.specs.Rising.{outOfOrder}
+use Rattle.storage.specs.Rising.{outOfOrder}
 use Rattle.layout.specs.Shadows.{entrySize, firstBody}
-use Rattle.layout.specs.Storage.{bodySize, bodyGood}
-use Rattle.layout.proofs.RisingLaws.{InOrder, in-order, found-none, one-bad}
-use Rattle.layout.proofs.Storing.{good-parts}
+use Rattle.storage.specs.Storage.{bodySize, bodyGood}
+use Rattle.storage.proofs.RisingLaws.{InOrder, in-order, found-none, one-bad}
+use Rattle.storage.proofs.Storing.{good-parts}
 
 -- a body that is good lies inside
 pub body-inside : (B c at : ℕ) (s : List ℕ) → at ≤ length s → bodyGood B c (drop at s) ≡ true → at + bodySize B c ≤ length s

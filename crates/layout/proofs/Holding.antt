@@ -12,11 +12,11 @@ use Rattle.field.specs.Shape.{longest}
 use Rattle.field.proofs.Shape.{shape-good}
 use Rattle.poly.specs.Tab.{tab}
 use Rattle.poly.proofs.Tab.{tab-length, tab-at}
-use Rattle.layout.specs.Blocks.{blocksOf, longestFile, mostBlocks, badBundleShape}
-use Rattle.layout.specs.Bytes.{two, four}
+use Rattle.storage.specs.Blocks.{blocksOf, longestFile, mostBlocks, badBundleShape}
+use Rattle.storage.specs.Bytes.{two, four}
 use Rattle.layout.specs.Held.{upTo, positionsOf, Stored, AllStored}
 use Rattle.layout.specs.Shadows.{Shadow, entrySize, entry, table, bodies}
-use Rattle.layout.proofs.BytesLaws.{Alike, alike-past, alike-front}
+use Rattle.storage.proofs.BytesLaws.{Alike, alike-past, alike-front}
 use Rattle.layout.proofs.Passing.{bundle-shape-told}
 
 pub record Limits (k n L : ℕ) : Type 0 where

@@ -1,9 +1,3 @@
-pub mod BytesLaws
-pub mod PutLaws
-pub mod RisingLaws
-pub mod Storing
-pub mod Placing
-pub mod Cursors
 pub mod Entries
 pub mod Passing
 pub mod Holding

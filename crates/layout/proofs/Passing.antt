@@ -16,15 +16,15 @@ use Rattle.field.specs.Shape.{longest, badShape}
 use Rattle.field.specs.declared.refusal.Refusal.the-variants.{Shape, Form}
 use Rattle.field.proofs.Checks.{passed, or-false}
 use Rattle.field.proofs.Shape.{shape-good}
-use Rattle.layout.specs.Blocks.{blocksOf, longestFile, mostBlocks, badBundleShape}
+use Rattle.storage.specs.Blocks.{blocksOf, longestFile, mostBlocks, badBundleShape}
 use Rattle.layout.specs.Fields.{kIn, nIn, lengthIn, heldIn, lastIn, blocksIn, entryAt, positionIn, countIn, offsetIn}
 use Rattle.layout.specs.Layout.{badFront, startOf, badEntry, restGood, layoutChecks}
 use Rattle.layout.specs.Mark.{mark, startsWith}
-use Rattle.layout.specs.Rising.{rises}
+use Rattle.storage.specs.Rising.{rises}
 use Rattle.layout.specs.Shadows.{headerSize, entrySize, firstBody}
-use Rattle.layout.specs.Storage.{bodyGood}
-use Rattle.layout.proofs.RisingLaws.{none-found, in-order-rises, rising-apart, rising-count}
-use Rattle.layout.proofs.Storing.{both}
+use Rattle.storage.specs.Storage.{bodyGood}
+use Rattle.storage.proofs.RisingLaws.{none-found, in-order-rises, rising-apart, rising-count}
+use Rattle.storage.proofs.Storing.{both}
 use Rattle.layout.proofs.Entries.{body-inside, entry-inside, entry-told}
 
 -- The three tests, both ways

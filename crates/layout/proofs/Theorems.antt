@@ -1,17 +1,10 @@
 -- The proofs of specs/Theorems.antt, each under its name there in small letters.
 -- Assumes nothing.
 use mathlib.Core.Path.{sym, _∙_}
-use Rattle.layout.specs.Theorems.{BodyStores, SymbolsRead, BundleAccepted, AcceptedBundle, OneReading, FactsSettled, EntrySettled}
+use Rattle.layout.specs.Theorems.{BundleAccepted, AcceptedBundle, OneReading, FactsSettled, EntrySettled}
 use Rattle.layout.proofs.Accepted as Accepted
 use Rattle.layout.proofs.Accepting as Accepting
 use Rattle.layout.proofs.Settling.{told-facts-one, told-entry-one}
-use Rattle.layout.proofs.Storing as Storing
-
-pub body-stores : BodyStores
-body-stores = Storing.body-stores
-
-pub symbols-read : SymbolsRead
-symbols-read = Storing.symbols-read
 
 pub bundle-accepted : BundleAccepted
 bundle-accepted k n L hs s is = (

@@ -1,8 +1,8 @@
 -- The fields of a bundle as they are read: what stands in its header and its table.
 use mathlib.Core.List.{List}
 use Prim.Native.Nat.{ℕ, _+_, _*_}
-use Rattle.layout.specs.Blocks.{blocksOf}
-use Rattle.layout.specs.Bytes.{twoAt, fourAt}
+use Rattle.storage.specs.Blocks.{blocksOf}
+use Rattle.storage.specs.Bytes.{twoAt, fourAt}
 use Rattle.layout.specs.Shadows.{headerSize, entrySize}
 
 -- the header: k, n, L, m, and the two bytes behind them

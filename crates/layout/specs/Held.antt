@@ -5,13 +5,13 @@ use mathlib.Core.List.{List, [], _∷_, map}
 use Prim.Native.Nat.{ℕ}
 use lib.ListN.{length, getD, take, drop}
 use Rattle.poly.specs.Tab.{tab}
-use Rattle.layout.specs.Blocks.{blocksOf, badBundleShape}
-use Rattle.layout.specs.Bytes.{Bytes}
+use Rattle.storage.specs.Blocks.{blocksOf, badBundleShape}
+use Rattle.storage.specs.Bytes.{Bytes}
 use Rattle.layout.specs.Fields.{heldIn, blocksIn, positionIn, countIn}
 use Rattle.layout.specs.Layout.{startOf}
-use Rattle.layout.specs.Rising.{rises}
+use Rattle.storage.specs.Rising.{rises}
 use Rattle.layout.specs.Shadows.{Shadow, bundleOf}
-use Rattle.layout.specs.Storage.{bodySize, bodyGood}
+use Rattle.storage.specs.Storage.{bodySize, bodyGood}
 
 -- 0, 1, .., m - 1
 unfoldable pub upTo : ℕ → List ℕ

@@ -8,12 +8,12 @@ use lib.ListN.{length, drop}
 use Rattle.field.specs.First.{first}
 use Rattle.field.specs.Refusals.{Answer, result, refuseIf}
 use Rattle.field.specs.declared.refusal.Refusal.the-variants.{Shape, Form}
-use Rattle.layout.specs.Blocks.{badBundleShape}
+use Rattle.storage.specs.Blocks.{badBundleShape}
 use Rattle.layout.specs.Fields.{kIn, nIn, lengthIn, heldIn, lastIn, blocksIn, positionIn, countIn, offsetIn}
 use Rattle.layout.specs.Mark.{mark, startsWith}
-use Rattle.layout.specs.Rising.{outOfOrder}
+use Rattle.storage.specs.Rising.{outOfOrder}
 use Rattle.layout.specs.Shadows.{headerSize, firstBody}
-use Rattle.layout.specs.Storage.{bodySize, bodyGood}
+use Rattle.storage.specs.Storage.{bodySize, bodyGood}
 
 unfoldable pub badFront : List ℕ → Bool
 badFront s = ltb (length s) headerSize || (not (startsWith mark s) || not (eqb (lastIn s) 0))

@@ -1,9 +1,6 @@
-pub mod Bytes
-pub mod Blocks
 pub mod Mark
-pub mod Rising
-pub mod Storage
 pub mod Shadows
+pub mod Rooms
 pub mod Fields
 pub mod Layout
 pub mod Facts

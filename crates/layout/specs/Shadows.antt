@@ -2,7 +2,7 @@
 use mathlib.Core.List.{List, [], _∷_, _++_}
 use Prim.Native.Nat.{ℕ, _+_, _*_}
 use lib.ListN.{length}
-use Rattle.layout.specs.Bytes.{two, four}
+use Rattle.storage.specs.Bytes.{two, four}
 use Rattle.layout.specs.Mark.{mark}
 
 -- a shadow that a bundle holds: its position, its overflow count and the bytes of its body

@@ -1,36 +1,16 @@
 -- What is proved of the layout, as statements: proofs/Theorems.antt proves each under the same name in small letters.
 use mathlib.Core.Path.{_≡_}
-use mathlib.Core.Bool.{true}
-use mathlib.Core.List.{List, [], _++_}
-use Prim.Native.Nat.{ℕ, _<_, _≤_}
-use lib.ListN.{length}
+use mathlib.Core.List.{List, []}
+use Prim.Native.Nat.{ℕ}
 use Rattle.field.specs.Refusals.{result}
-use Rattle.layout.specs.Blocks.{mostBlocks}
-use Rattle.layout.specs.Bytes.{Bytes}
+use Rattle.storage.specs.Bytes.{Bytes}
 use Rattle.layout.specs.Facts.{toldFacts, toldEntry, factsAnswer, entryAnswer}
 use Rattle.layout.specs.Fields.{kIn, nIn, lengthIn}
 use Rattle.layout.specs.Held.{shadowsIn, IsBundle}
 use Rattle.layout.specs.Layout.{layoutChecks}
 use Rattle.layout.specs.Shadows.{Shadow}
-use Rattle.layout.specs.Storage.{countOf, bodyOf, bodySize, bodyGood, symbolIn}
 use Rattle.layout.specs.declared.facts.EntryAnswer.{EntryAnswer}
 use Rattle.layout.specs.declared.facts.FactsAnswer.{FactsAnswer}
-
--- The storage: a body stores its symbols, whatever stands behind it
-
-pub record Stores (B : ℕ) (e : ℕ → ℕ) (behind : List ℕ) : Type 0 where
-  pub long : length (bodyOf B e) ≡ bodySize B (countOf B e)
-  pub bytes : Bytes (bodyOf B e)
-  pub good : bodyGood B (countOf B e) (bodyOf B e ++ behind) ≡ true
-  pub symbols : (b : ℕ) → b < B → symbolIn (countOf B e) (bodyOf B e ++ behind) b ≡ e b
-
-abbrev pub BodyStores : Type 0
-BodyStores =
-    (B : ℕ) (e : ℕ → ℕ) (behind : List ℕ) → B ≤ mostBlocks → ((b : ℕ) → b < B → e b < 65537) → Stores B e behind
-
--- what is read of bytes is a symbol
-abbrev pub SymbolsRead : Type 0
-SymbolsRead = (c b : ℕ) (s : List ℕ) → Bytes s → symbolIn c s b < 65537
 
 -- The container: what the layout's tests let through is exactly the bundles
 

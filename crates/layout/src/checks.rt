@@ -8,21 +8,21 @@ use crate::inner::length_in;
 use crate::inner::n_in;
 use crate::inner::offset_in;
 use crate::inner::position_in;
-use crate::inner::two_at;
 use field::Outcome;
 use field::Refusal;
 use field::inner::bad_shape;
+use storage::inner::body_good;
+use storage::inner::two_at;
 ghost use mathlib.Core.Path.{_≡_};
 ghost use Prim.Native.Nat.{_+_, _*_, _<_, _≤_};
 ghost use lib.ListN.{length};
 ghost use Rattle.field.specs.Refusals.{toldOutcome};
-ghost use Rattle.layout.specs.Blocks.{mostBlocks, badBundleShape};
+ghost use Rattle.storage.specs.Blocks.{mostBlocks, badBundleShape};
 ghost use Rattle.layout.specs.Fields.{nIn, heldIn, blocksIn, positionIn, entryAt};
 ghost use Rattle.layout.specs.Layout.{badFront, startOf, badEntry, restGood, layoutChecks};
 ghost use Rattle.layout.specs.Mark.{startsWith};
-ghost use Rattle.layout.specs.Rising.{least, rises};
+ghost use Rattle.storage.specs.Rising.{least};
 ghost use Rattle.layout.specs.Shadows.{headerSize, entrySize};
-ghost use Rattle.layout.specs.Storage.{listAt, bodyGood};
 
 const LONGEST_FILE: usize = 1048576;
 
@@ -65,38 +65,6 @@ pub fn bad_bundle_shape(k: usize, n: usize, length: usize) -> bool
         return true;
     }
     MOST_BLOCKS < blocks(k, length)
-}
-
-// Whether a body's overflow list rises strictly, each entry below the limit.
-fn list_rises(list: &[u8], limit: usize, count: usize) -> bool
-    requires { ⌜ 2 * count ≤ length (now list) ⌝ }
-    ensures { λ r. ⌜ r ≡ rises limit count (listAt (now (list .entry))) ⌝ }
-{
-    let mut low = 0;
-    let mut j = 0;
-    while j < count {
-        let here = two_at(list, 2 * j);
-        if here < low {
-            return false;
-        }
-        if limit <= here {
-            return false;
-        }
-        low = here + 1;
-        j += 1;
-    }
-    true
-}
-
-// Whether a good body stands at the front.
-fn body_good(bytes: &[u8], blocks: usize, count: usize) -> bool
-    requires { ⌜ (blocks ≤ mostBlocks) × (count < 65536) ⌝ }
-    ensures { λ r. ⌜ r ≡ bodyGood blocks count (now (bytes .entry)) ⌝ }
-{
-    if bytes.len() < 2 * count + 2 * blocks {
-        return false;
-    }
-    list_rises(bytes, blocks, count)
 }
 
 // Whether entry t is bad: at is where its body has to begin, low the least that its position may be.

@@ -1,59 +1,19 @@
-// No entry points: numbers in bytes, the fields of a bundle and the tests of its layout, for the entry points here and in the crates above. Those
-// that read or write at an index ask that it lies inside.
+// No entry points: the fields of a bundle and the tests of its layout, for the entry points here and in the crates above. Those that read a
+// field ask that it is there.
 pub use crate::checks::bad_bundle_shape;
 pub use crate::checks::layout_checks;
-pub use crate::storage::advance;
-pub use crate::storage::body_size;
-pub use crate::storage::store;
-pub use crate::storage::symbol;
+use storage::inner::four_at;
+use storage::inner::two_at;
 ghost use mathlib.Core.Path.{_≡_};
 ghost use mathlib.Core.List.{[]};
 ghost use Prim.Native.Nat.{_+_, _<_, _≤_};
 ghost use lib.ListN.{length};
 ghost use Rattle.field.specs.Refusals.{result};
 ghost use Rattle.field.specs.Shape.{longest};
-ghost use Rattle.layout.specs.Blocks.{blocksOf, longestFile, mostBlocks};
-ghost use Rattle.layout.specs.Bytes.{twoAt, fourAt, two, four, put};
+ghost use Rattle.storage.specs.Blocks.{blocksOf, longestFile, mostBlocks};
 ghost use Rattle.layout.specs.Fields.{kIn, nIn, lengthIn, heldIn, blocksIn, entryAt, positionIn, countIn, offsetIn};
 ghost use Rattle.layout.specs.Layout.{layoutChecks};
 ghost use Rattle.layout.specs.Shadows.{headerSize, entrySize};
-
-// A byte as a number that others are added to.
-fn wide(byte: u8) -> usize
-    ensures { λ r. ⌜ (r ≡ byte) × (r < 256) ⌝ }
-{
-    byte as usize
-}
-
-pub fn two_at(bytes: &[u8], at: usize) -> usize
-    requires { ⌜ at + 1 < length (now bytes) ⌝ }
-    ensures { λ r. ⌜ (r ≡ twoAt (now (bytes .entry)) at) × (r < 65536) ⌝ }
-{
-    256 * wide(bytes[at]) + wide(bytes[at + 1])
-}
-
-fn four_at(bytes: &[u8], at: usize) -> usize
-    requires { ⌜ at + 3 < length (now bytes) ⌝ }
-    ensures { λ r. ⌜ (r ≡ fourAt (now (bytes .entry)) at) × (r < 4294967296) ⌝ }
-{
-    65536 * two_at(bytes, at) + two_at(bytes, at + 2)
-}
-
-pub fn put_two(bytes: &mut [u8], at: usize, number: usize)
-    requires { ⌜ (at + 1 < length (now bytes)) × (number < 65536) ⌝ }
-    ensures { λ _. ⌜ now (bytes .exit) ≡ put (two number) at (now (bytes .entry)) ⌝ }
-{
-    bytes[at] = (number / 256) as u8;
-    bytes[at + 1] = (number % 256) as u8;
-}
-
-pub fn put_four(bytes: &mut [u8], at: usize, number: usize)
-    requires { ⌜ (at + 3 < length (now bytes)) × (number < 4294967296) ⌝ }
-    ensures { λ _. ⌜ now (bytes .exit) ≡ put (four number) at (now (bytes .entry)) ⌝ }
-{
-    put_two(bytes, at, number / 65536);
-    put_two(bytes, at + 2, number % 65536);
-}
 
 // B.
 pub fn blocks(k: usize, length: usize) -> usize

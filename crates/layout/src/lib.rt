@@ -1,8 +1,7 @@
-// The layout of a bundle: its bytes, the tests that a bundle has to pass, and what its header and table say.
+// The layout of a bundle: header, table and bodies, the tests that a bundle has to pass, and what its header and table say.
 mod checks;
 mod facts;
 pub mod inner;
-mod storage;
 
 pub use facts::Entry;
 pub use facts::EntryAnswer;

@@ -3,7 +3,7 @@ use mathlib.Core.Path.{_≡_}
 use mathlib.Core.List.{List}
 use Prim.Native.Nat.{ℕ}
 use Rattle.field.specs.Leaves.{Leaves}
-use Rattle.field.specs.Points.{pointAnswer}
+use Rattle.numbers.specs.Points.{pointAnswer}
 use Rattle.transform.specs.Calls.{transformLeaves, inverseLeaves}
 use Rattle.block.specs.Calls.{encodeLeaves, decodeLeaves}
 use Rattle.layout.specs.Facts.{factsAnswer, entryAnswer}

@@ -3,10 +3,10 @@
 mod bundles;
 
 use field::Outcome;
-use field::PointAnswer;
 use field::Position;
+use numbers::PointAnswer;
 ghost use mathlib.Core.Path.{_≡_};
-ghost use Rattle.field.specs.Points.{pointAnswer};
+ghost use Rattle.numbers.specs.Points.{pointAnswer};
 ghost use Rattle.field.specs.Refusals.{toldOutcome};
 ghost use Rattle.transform.specs.Calls.{transformLeaves, inverseLeaves};
 ghost use Rattle.block.specs.Calls.{encodeLeaves, decodeLeaves};
@@ -37,7 +37,7 @@ pub extern "C" fn sulmirejo_point(
 ) -> u32
     ensures { λ r. ⌜ with-point (status-number r (now (number .exit))) (now (point .exit)) ≡ pointReturned (pointAnswer n position) (now (point .entry)) ⌝ }
 {
-    match field::point_at(n, Position(position)) {
+    match numbers::point_at(n, Position(position)) {
         PointAnswer::Point(found) => {
             let value = found.0;
             *point = value;

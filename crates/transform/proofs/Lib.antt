@@ -1,11 +1,2 @@
-pub mod Ready
-pub mod Sums
-pub mod Round
-pub mod Undo
-pub mod Order
-pub mod Arranging
-pub mod Joining
-pub mod Halves
-pub mod Steps
 pub mod Judged
 pub mod Theorems

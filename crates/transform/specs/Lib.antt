@@ -1,8 +1,3 @@
-pub mod Transform
-pub mod Halving
-pub mod Order
-pub mod InPlace
-pub mod Ready
 pub mod Lengths
 pub mod Calls
 pub mod Theorems

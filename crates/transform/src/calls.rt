@@ -1,11 +1,12 @@
 // The entry points: they test their input, refuse by SHAPE, ROOM and VALUE, and work in the list that they are lent.
-use crate::inner;
+use crate::checks::judge;
 use field::Outcome;
+use halving::inner;
 ghost use mathlib.Core.Path.{_≡_};
 ghost use Rattle.field.specs.Leaves.{left};
 ghost use Rattle.field.specs.Refusals.{toldOutcome};
 ghost use Rattle.transform.specs.Calls.{oneOf, callLeaves, transformLeaves, inverseLeaves};
-ghost use Rattle.transform.specs.Ready.{Ready};
+ghost use Rattle.halving.specs.Ready.{Ready};
 
 // The transform, or the inverse where back is asked.
 fn one_of(back: bool, list: &mut [u32])
@@ -24,7 +25,7 @@ fn call(back: bool, list: &mut [u32], work: &mut [u32]) -> Outcome
     ensures { λ r. ⌜ left (toldOutcome r) (now (list .exit)) (now (work .exit)) ≡ callLeaves back (now (list .entry)) (now (work .entry)) ⌝ }
 {
     let size = list.len();
-    match inner::judge(list, work.len()) {
+    match judge(list, work.len()) {
         Outcome::Done => {
             one_of(back, list);
             inner::clear(&mut work[0..size]);

@@ -1,6 +1,6 @@
-// The transform of 1, 2, 4 up to 4,096 symbols, and its inverse.
+// The transform of 1, 2, 4 up to 4,096 symbols, and its inverse: the entry points.
 mod calls;
-pub mod inner;
+mod checks;
 
 pub use calls::inverse;
 pub use calls::transform;

@@ -1,8 +1,8 @@
 // One line for each case.
-use field::PointAnswer;
 use field::Refusal;
-use field::SymbolAnswer;
 use libc::STDOUT_FILENO;
+use numbers::PointAnswer;
+use numbers::SymbolAnswer;
 
 fn text(bytes: &[u8]) {
     io::write_all(STDOUT_FILENO, bytes);

@@ -10,23 +10,23 @@ use native.Mathlib.Omega.{arith}
 use lib.Dec.{lit<}
 use lib.ListN.{length, getD, drop, length-map, List·getD-append}
 use lib.Seq.{getD-drop}
-use Rattle.block.specs.Code.{symbolOf}
-use Rattle.layout.specs.Blocks.{blocksOf, badBundleShape}
-use Rattle.layout.specs.Bytes.{two, four}
+use Rattle.code.specs.Code.{symbolOf}
+use Rattle.storage.specs.Blocks.{blocksOf, badBundleShape}
+use Rattle.storage.specs.Bytes.{two, four}
 use Rattle.layout.specs.Fields.{heldIn, entryAt, positionIn, countIn, offsetIn}
 use Rattle.layout.specs.Held.{upTo, positionsOf, Stored, IsBundle}
-use Rattle.layout.specs.Rising.{least}
+use Rattle.storage.specs.Rising.{least}
 use Rattle.layout.specs.Shadows.{Shadow, headerSize, firstBody, header, entry, bodies, bundleOf}
-use Rattle.layout.specs.Storage.{countOf, bodyOf, bodySize}
+use Rattle.storage.specs.Storage.{countOf, bodyOf, bodySize}
 use Rattle.layout.proofs.Accepting.{header-length, passes, read-m, read-position, read-count, read-entry, read-offset, read-body, bundle-length}
-use Rattle.layout.proofs.BytesLaws.{Alike, alike-front}
+use Rattle.storage.proofs.BytesLaws.{Alike, alike-front}
 use Rattle.layout.proofs.Holding.{shadowAt, made-at, made-stored, all-length, all-at, offsetOf, offset-next, offset-end}
 use Rattle.layout.proofs.Passing.{bundle-shape-told, offset-is-start}
-use Rattle.layout.proofs.RisingLaws.{InOrder, in-order-rises, rises-same}
-use Rattle.layout.proofs.Storing.{overflow-count, body-long}
-use Rattle.layout.proofs.Theorems.{body-stores}
-use Rattle.writer.specs.File.{Rising, symbolAt, shadowOf, bundleAt, fileBundle}
-use Rattle.writer.specs.Rooms.{writeRoom}
+use Rattle.storage.proofs.RisingLaws.{InOrder, in-order-rises, rises-same}
+use Rattle.storage.proofs.Storing.{overflow-count, body-long}
+use Rattle.storage.proofs.Theorems.{body-stores}
+use Rattle.words.specs.File.{Rising, symbolAt, shadowOf, bundleAt, fileBundle}
+use Rattle.layout.specs.Rooms.{writeRoom}
 
 pub symbol-small : (k n : ℕ) (file : List ℕ) (i b : ℕ) → symbolAt k n file i b < 65537
 unfolding symbolAt symbolOf

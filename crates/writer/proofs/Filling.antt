@@ -13,17 +13,18 @@ use lib.ListN.{length, getD}
 use Rattle.field.specs.Leaves.{written}
 use Rattle.poly.specs.Tab.{tab}
 use Rattle.poly.proofs.Tab.{tab-length, tab-at}
-use Rattle.layout.specs.Blocks.{blocksOf, badBundleShape}
-use Rattle.layout.specs.Bytes.{two, inBytes, put}
+use Rattle.storage.specs.Blocks.{blocksOf, badBundleShape}
+use Rattle.storage.specs.Bytes.{two, inBytes, put}
 use Rattle.layout.specs.Fields.{entryAt, countIn, offsetIn}
 use Rattle.layout.specs.Shadows.{headerSize, entrySize, firstBody}
-use Rattle.layout.specs.Storage.{overflows, wordOf, countOf, bodyOf, bodySize, stored}
-use Rattle.layout.proofs.BytesLaws.{Alike, alike-on, alike-past, two-alike, four-alike, in-bytes-length, in-bytes-there}
-use Rattle.layout.proofs.Storing.{overflow-place}
-use Rattle.writer.specs.File.{symbolAt, fileBundle}
-use Rattle.writer.specs.Writing.{tallied, Stand, Onward, Filled, Progress}
+use Rattle.storage.specs.Storage.{overflows, wordOf, countOf, bodyOf, bodySize, stored}
+use Rattle.storage.proofs.BytesLaws.{Alike, alike-on, alike-past, two-alike, four-alike, in-bytes-length, in-bytes-there}
+use Rattle.storage.proofs.Storing.{overflow-place}
+use Rattle.words.specs.File.{symbolAt, fileBundle}
+use Rattle.words.specs.Counts.{tallied}
+use Rattle.writer.specs.Writing.{Stand, Onward, Filled, Progress}
 use Rattle.writer.proofs.Bundling.{bodyAt, body-first, body-next, body-up, bundle-end, bundle-count, bundle-offset, bundle-body}
-use Rattle.writer.proofs.Counting.{count-next, count-up}
+use Rattle.words.proofs.Counting.{count-next, count-up}
 use Rattle.writer.proofs.Onward.{onward-none, onward-more, put-stands, put-onward, all-written}
 
 -- What a body holds for block b

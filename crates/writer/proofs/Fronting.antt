@@ -9,18 +9,18 @@ use native.Mathlib.Nat.{mul-le-mul}
 use native.Mathlib.Numerals.{add-one}
 use native.Mathlib.Omega.{arith}
 use lib.ListN.{length, getD}
-use Rattle.layout.specs.Blocks.{blocksOf, badBundleShape}
-use Rattle.layout.specs.Bytes.{two, four, put}
+use Rattle.storage.specs.Blocks.{blocksOf, badBundleShape}
+use Rattle.storage.specs.Bytes.{two, four, put}
 use Rattle.layout.specs.Fields.{entryAt}
 use Rattle.layout.specs.Mark.{mark}
 use Rattle.layout.specs.Shadows.{headerSize, entrySize, firstBody, header}
-use Rattle.layout.specs.Storage.{countOf, bodySize}
+use Rattle.storage.specs.Storage.{countOf, bodySize}
 use Rattle.layout.proofs.Accepting.{header-length}
-use Rattle.layout.proofs.BytesLaws.{Alike}
+use Rattle.storage.proofs.BytesLaws.{Alike}
 use Rattle.layout.proofs.Holding.{limits}
-use Rattle.layout.proofs.PutLaws.{put-more}
-use Rattle.layout.proofs.Storing.{overflow-count}
-use Rattle.writer.specs.File.{symbolAt, fileBundle}
+use Rattle.storage.proofs.PutLaws.{put-more}
+use Rattle.storage.proofs.Storing.{overflow-count}
+use Rattle.words.specs.File.{symbolAt, fileBundle}
 use Rattle.writer.specs.Writing.{Stand, Onward}
 use Rattle.writer.proofs.Bundling.{bodyAt, body-first, body-next, body-le, body-up, bundle-end, bundle-header, bundle-entry}
 use Rattle.writer.proofs.Onward.{onward-more, put-stands, put-onward}

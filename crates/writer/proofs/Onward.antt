@@ -9,9 +9,9 @@ use lib.Dec.{lit<}
 use lib.ListN.{length, getD, take, drop, length-append, take-append-drop}
 use lib.Seq.{ext-getD, drop-append-add, drop-drop, getD-take, length-take-le}
 use Rattle.field.specs.Leaves.{written}
-use Rattle.layout.specs.Bytes.{put}
-use Rattle.layout.proofs.BytesLaws.{Alike}
-use Rattle.layout.proofs.PutLaws.{put-length, put-here, put-before, put-past}
+use Rattle.storage.specs.Bytes.{put}
+use Rattle.storage.proofs.BytesLaws.{Alike}
+use Rattle.storage.proofs.PutLaws.{put-length, put-here, put-before, put-past}
 use Rattle.writer.specs.Writing.{Stand, Onward}
 
 module _ (bundle : List ℕ) where

@@ -1,3 +1,1 @@
-pub mod File
-pub mod Rooms
 pub mod Writing

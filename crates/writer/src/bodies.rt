@@ -1,31 +1,32 @@
 // Writing a bundle: one pass over the blocks counts the overflows, of which the table needs the counts, and one writes the bodies. No entry
 // points and for this crate alone: the entry point has made the checks.
-use crate::counts::clear_counts;
-use crate::counts::code_front;
-use crate::counts::count_overflows;
-use crate::counts::tally;
 use crate::front::write_front;
 use field::inner::size;
 use field::inner::wide;
+use halving::inner::clear;
 use layout::inner::blocks;
-use layout::inner::body_size;
 use layout::inner::count_in;
 use layout::inner::offset_in;
-use layout::inner::store;
-use transform::inner::clear;
+use storage::inner::body_size;
+use storage::inner::store;
+use words::inner::clear_counts;
+use words::inner::code_front;
+use words::inner::count_overflows;
+use words::inner::tally;
 ghost use mathlib.Core.Path.{_≡_};
 ghost use mathlib.Core.Bool.{false};
 ghost use Prim.Native.Nat.{suc, _+_, _*_, _<_, _≤_};
 ghost use lib.ListN.{length, replicate};
 ghost use Rattle.field.specs.Leaves.{written};
 ghost use Rattle.field.specs.Size.{sizeOf};
-ghost use Rattle.layout.specs.Blocks.{blocksOf, badBundleShape};
+ghost use Rattle.storage.specs.Blocks.{blocksOf, badBundleShape};
 ghost use Rattle.layout.specs.Fields.{entryAt, countIn, offsetIn};
 ghost use Rattle.layout.specs.Shadows.{entrySize};
-ghost use Rattle.layout.specs.Storage.{stored, bodySize};
-ghost use Rattle.writer.specs.File.{fileBundle};
-ghost use Rattle.writer.specs.Rooms.{writeRoom, workRoom};
-ghost use Rattle.writer.specs.Writing.{Coded, Counted, Onward, Progress};
+ghost use Rattle.storage.specs.Storage.{stored, bodySize};
+ghost use Rattle.words.specs.File.{fileBundle};
+ghost use Rattle.layout.specs.Rooms.{writeRoom, workRoom};
+ghost use Rattle.words.specs.Counts.{Coded, Counted};
+ghost use Rattle.writer.specs.Writing.{Onward, Progress};
 
 // The symbol of block b into the body of shadow i, which the table has placed.
 fn put_symbol(out: &mut [u8], i: usize, blocks: usize, b: usize, done: usize, symbol: u32)

@@ -2,20 +2,21 @@
 use field::inner::size;
 use field::inner::wide;
 use layout::inner::blocks;
-use layout::inner::body_size;
-use layout::inner::put_four;
-use layout::inner::put_two;
+use storage::inner::body_size;
+use storage::inner::put_four;
+use storage::inner::put_two;
 ghost use mathlib.Core.Path.{_≡_};
 ghost use mathlib.Core.Bool.{false};
 ghost use mathlib.Core.List.{_++_};
 ghost use Prim.Native.Nat.{_+_, _<_, _≤_};
 ghost use lib.ListN.{length};
-ghost use Rattle.layout.specs.Blocks.{blocksOf, badBundleShape};
-ghost use Rattle.layout.specs.Bytes.{two, four, put};
+ghost use Rattle.storage.specs.Blocks.{blocksOf, badBundleShape};
+ghost use Rattle.storage.specs.Bytes.{two, four, put};
 ghost use Rattle.layout.specs.Fields.{entryAt};
 ghost use Rattle.layout.specs.Shadows.{headerSize, entrySize, header, firstBody};
-ghost use Rattle.writer.specs.File.{fileBundle};
-ghost use Rattle.writer.specs.Writing.{Counted, Stand, Onward};
+ghost use Rattle.words.specs.File.{fileBundle};
+ghost use Rattle.words.specs.Counts.{Counted};
+ghost use Rattle.writer.specs.Writing.{Stand, Onward};
 
 // At the front of to, which stays as it was behind it.
 fn copy(from: &[u8], to: &mut [u8])

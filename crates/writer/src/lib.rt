@@ -1,6 +1,4 @@
 // The bundle of a file: what it is, and how it is written.
 mod bodies;
-mod counts;
 mod front;
 pub mod inner;
-mod words;

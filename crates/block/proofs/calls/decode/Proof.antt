@@ -9,8 +9,8 @@ use lib.ListN.{length}
 use lib.Seq.{length-front}
 use Rattle.field.proofs.Leaves.{told-done, told-refused, leaves-done, leaves-refused, lent-length}
 use Rattle.block.specs.Checks.{decodeChecks}
-use Rattle.block.specs.Decoding.{decodeOf}
-use Rattle.block.specs.Held.{held}
+use Rattle.code.specs.Decoding.{decodeOf}
+use Rattle.code.specs.Held.{held}
 use Rattle.block.proofs.Calling.{decoded-whole}
 use Rattle.block.proofs.Passing.{decode-passed}
 use Rattle.block.proofs.calls.decode.Statement.{statement}

@@ -17,10 +17,10 @@ use Rattle.field.proofs.Checks.{stops, goes-on, stops-at, passes-all}
 use Rattle.field.proofs.Shape.{shape-good}
 use Rattle.field.proofs.Values.{above-found, above-none}
 use Rattle.block.specs.Checks.{decodeChecks}
-use Rattle.block.specs.Held.{held}
-use Rattle.block.specs.Positions.{Inside, firstOutside}
-use Rattle.block.specs.Repeats.{firstRepeat}
-use Rattle.block.specs.Rooms.{decodeRoom}
+use Rattle.code.specs.Held.{held}
+use Rattle.code.specs.Positions.{Inside, firstOutside}
+use Rattle.code.specs.Repeats.{firstRepeat}
+use Rattle.code.specs.Rooms.{decodeRoom}
 use Rattle.block.proofs.Outside.{outside-none}
 use Rattle.block.proofs.checks.decode_checks.Statement.{statement}
 use Rattle.block.proofs.checks.decode_checks.Tie as tie

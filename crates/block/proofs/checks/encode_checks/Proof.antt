@@ -10,7 +10,7 @@ use Rattle.field.specs.declared.refusal.Refusal.the-variants.{Shape, Length, Ro
 use Rattle.field.proofs.Checks.{stops, goes-on}
 use Rattle.field.proofs.Values.{above-found, above-none}
 use Rattle.block.specs.Checks.{encodeChecks}
-use Rattle.block.specs.Rooms.{encodeRoom}
+use Rattle.code.specs.Rooms.{encodeRoom}
 use Rattle.block.proofs.checks.encode_checks.Statement.{statement}
 use Rattle.block.proofs.checks.encode_checks.Tie as tie
 

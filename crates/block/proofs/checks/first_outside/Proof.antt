@@ -9,7 +9,7 @@ use borrow.Author.Tests.{le-leb, lt-leb}
 use lib.Dec.{leb}
 use lib.ListN.{length, getD}
 use Rattle.field.proofs.First.{first-here, first-all}
-use Rattle.block.specs.Positions.{firstOutside}
+use Rattle.code.specs.Positions.{firstOutside}
 use Rattle.block.proofs.checks.first_outside.Statement.{statement}
 use Rattle.block.proofs.checks.first_outside.Tie as tie
 

@@ -5,7 +5,7 @@ use Prim.Native.Nat.{_*_}
 use native.Mathlib.Omega.{arith}
 use borrow.Author.Needs.{needs}
 use Rattle.field.proofs.Size.{size-small}
-use Rattle.block.specs.Rooms.{decodeRoom}
+use Rattle.code.specs.Rooms.{decodeRoom}
 use Rattle.block.proofs.rooms.decode_room.Statement.{statement}
 use Rattle.block.proofs.rooms.decode_room.Tie as tie
 

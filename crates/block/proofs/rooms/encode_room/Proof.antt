@@ -5,7 +5,7 @@ use Prim.Native.Nat.{_*_}
 use native.Mathlib.Omega.{arith}
 use borrow.Author.Needs.{needs}
 use Rattle.field.proofs.Size.{size-small}
-use Rattle.block.specs.Rooms.{encodeRoom}
+use Rattle.code.specs.Rooms.{encodeRoom}
 use Rattle.block.proofs.rooms.encode_room.Statement.{statement}
 use Rattle.block.proofs.rooms.encode_room.Tie as tie
 

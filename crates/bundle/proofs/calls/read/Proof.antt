@@ -11,8 +11,8 @@ use Rattle.field.proofs.Leaves.{told-done, told-refused, leaves-done, leaves-re
 use Rattle.layout.specs.Fields.{blocksIn}
 use Rattle.layout.proofs.Passing.{header-inside}
 use Rattle.bundle.specs.Checks.{readChecks}
-use Rattle.bundle.specs.Reading.{blocksAnswer}
-use Rattle.writer.specs.Rooms.{workRoom}
+use Rattle.reader.specs.Reading.{blocksAnswer}
+use Rattle.layout.specs.Rooms.{workRoom}
 use Rattle.bundle.proofs.Passing.{read-passed}
 use Rattle.bundle.proofs.ReadLeaving.{blocks-whole}
 use Rattle.bundle.proofs.calls.read.Statement.{statement}

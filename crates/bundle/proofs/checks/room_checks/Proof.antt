@@ -13,7 +13,7 @@ use Rattle.field.proofs.Checks.{stops, goes-on}
 use Rattle.layout.specs.Fields.{kIn, nIn, lengthIn, heldIn}
 use Rattle.layout.proofs.Passing.{header-inside}
 use Rattle.bundle.specs.Checks.{roomChecks}
-use Rattle.writer.specs.Rooms.{workRoom}
+use Rattle.layout.specs.Rooms.{workRoom}
 use Rattle.bundle.proofs.checks.room_checks.Statement.{statement}
 use Rattle.bundle.proofs.checks.room_checks.Tie as tie
 

@@ -12,10 +12,10 @@ use Rattle.field.specs.Shape.{longest}
 use Rattle.field.specs.declared.refusal.Refusal.the-variants.{Shape, Room}
 use Rattle.field.proofs.Checks.{stops, goes-on}
 use Rattle.field.proofs.Shape.{shape-good}
-use Rattle.layout.specs.Blocks.{blocksOf, longestFile, mostBlocks, badBundleShape}
+use Rattle.storage.specs.Blocks.{blocksOf, longestFile, mostBlocks, badBundleShape}
 use Rattle.layout.proofs.Passing.{bundle-shape-told}
 use Rattle.bundle.specs.Checks.{writeChecks}
-use Rattle.writer.specs.Rooms.{writeRoom, workRoom}
+use Rattle.layout.specs.Rooms.{writeRoom, workRoom}
 use Rattle.bundle.proofs.checks.write_checks.Statement.{statement}
 use Rattle.bundle.proofs.checks.write_checks.Tie as tie
 

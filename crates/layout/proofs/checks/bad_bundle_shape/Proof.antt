@@ -5,7 +5,7 @@ use native.Mathlib.Omega.{arith}
 use borrow.Author.Needs.{needs}
 use borrow.Author.Tests.{lt-ltb, le-ltb}
 use Rattle.field.proofs.Shape.{shape-good}
-use Rattle.layout.specs.Blocks.{longestFile, mostBlocks, badBundleShape}
+use Rattle.storage.specs.Blocks.{longestFile, mostBlocks, badBundleShape}
 use Rattle.layout.proofs.checks.bad_bundle_shape.Statement.{statement}
 use Rattle.layout.proofs.checks.bad_bundle_shape.Tie as tie
 

@@ -9,9 +9,9 @@ use borrow.Author.Needs.{needs}
 use lib.ListN.{length, take, drop, length-drop}
 use lib.Seq.{take-all}
 use Rattle.layout.specs.Fields.{positionIn}
-use Rattle.layout.specs.Storage.{bodyGood}
+use Rattle.storage.specs.Storage.{bodyGood}
 use Rattle.layout.proofs.Entries.{bad-order, bad-offset, bad-body}
-use Rattle.layout.proofs.RisingLaws.{too-low, too-high, between}
+use Rattle.storage.proofs.RisingLaws.{too-low, too-high, between}
 use Rattle.layout.proofs.checks.bad_entry.Statement.{statement}
 use Rattle.layout.proofs.checks.bad_entry.Tie as tie
 

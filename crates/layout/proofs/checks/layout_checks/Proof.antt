@@ -12,7 +12,7 @@ use Rattle.field.specs.Shape.{longest}
 use Rattle.field.specs.declared.refusal.Refusal.the-variants.{Shape, Form}
 use Rattle.field.proofs.Checks.{stops}
 use Rattle.field.proofs.Shape.{shape-good}
-use Rattle.layout.specs.Blocks.{blocksOf, longestFile, mostBlocks, badBundleShape}
+use Rattle.storage.specs.Blocks.{blocksOf, longestFile, mostBlocks, badBundleShape}
 use Rattle.layout.specs.Fields.{kIn, nIn, lengthIn, heldIn, blocksIn}
 use Rattle.layout.specs.Layout.{badFront, restGood, layoutChecks}
 use Rattle.layout.specs.Shadows.{headerSize}

@@ -8,13 +8,13 @@ use native.Mathlib.Omega.{arith}
 use borrow.Author.Count.{below-none, below-more}
 use borrow.Author.Needs.{needs}
 use lib.ListN.{length}
-use Rattle.layout.specs.Blocks.{mostBlocks}
+use Rattle.storage.specs.Blocks.{mostBlocks}
 use Rattle.layout.specs.Fields.{positionIn}
 use Rattle.layout.specs.Layout.{startOf, badEntry}
-use Rattle.layout.specs.Rising.{least}
+use Rattle.storage.specs.Rising.{least}
 use Rattle.layout.specs.Shadows.{headerSize, entrySize, firstBody}
 use Rattle.layout.proofs.Entries.{entry-inside, start-first, start-step, end-inside, rest-short, rest-bad, rest-is}
-use Rattle.layout.proofs.RisingLaws.{least-first, least-next}
+use Rattle.storage.proofs.RisingLaws.{least-first, least-next}
 use Rattle.layout.proofs.checks.rest_good.Statement.{statement}
 use Rattle.layout.proofs.checks.rest_good.Tie as tie
 

@@ -9,7 +9,7 @@ use borrow.Author.Tests.{eq-eqb, ne-eqb}
 use lib.Dec.{eqb}
 use lib.ListN.{length, getD}
 use Rattle.layout.specs.Mark.{startsWith}
-use Rattle.layout.proofs.RisingLaws.{one-bad, none-bad}
+use Rattle.storage.proofs.RisingLaws.{one-bad, none-bad}
 use Rattle.layout.proofs.checks.starts_with.Statement.{statement}
 use Rattle.layout.proofs.checks.starts_with.Tie as tie
 

@@ -10,7 +10,7 @@ use Rattle.field.specs.Refusals.{result, refused}
 use Rattle.field.specs.Shape.{longest}
 use Rattle.field.specs.declared.refusal.Refusal.{Refusal}
 use Rattle.field.proofs.Leaves.{told-done, told-refused}
-use Rattle.layout.specs.Blocks.{blocksOf, longestFile}
+use Rattle.storage.specs.Blocks.{blocksOf, longestFile}
 use Rattle.layout.specs.Facts.{factsAnswer}
 use Rattle.layout.specs.Fields.{kIn, nIn, lengthIn, heldIn, blocksIn}
 use Rattle.layout.specs.Layout.{layoutChecks}

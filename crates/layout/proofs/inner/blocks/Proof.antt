@@ -2,7 +2,7 @@
 -- Assumes nothing.
 use borrow.Author.Needs.{needs}
 use Rattle.field.specs.Shape.{longest}
-use Rattle.layout.specs.Blocks.{blocksOf, longestFile}
+use Rattle.storage.specs.Blocks.{blocksOf, longestFile}
 use Rattle.layout.proofs.inner.blocks.Statement.{statement}
 use Rattle.layout.proofs.inner.blocks.Tie as tie
 

@@ -2,7 +2,7 @@
 -- Assumes nothing.
 use mathlib.Core.Path.{ap₂, _∙_}
 use native.Mathlib.Omega.{arith}
-use Rattle.layout.specs.Blocks.{blocksOf}
+use Rattle.storage.specs.Blocks.{blocksOf}
 use Rattle.layout.specs.Fields.{blocksIn}
 use Rattle.layout.proofs.Passing.{header-inside, k-some, k-limited, length-limited, blocks-limited}
 use Rattle.layout.proofs.inner.blocks_in.Statement.{statement}

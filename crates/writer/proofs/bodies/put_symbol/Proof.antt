@@ -4,8 +4,8 @@ use mathlib.Core.Path.{ap₂, _∙_}
 use Prim.Native.Nat.{ℕ}
 use native.Mathlib.Omega.{arith}
 use borrow.Author.Needs.{needs}
-use Rattle.layout.specs.Storage.{bodySize, stored}
-use Rattle.layout.proofs.Placing.{lent-length, stored-part}
+use Rattle.storage.specs.Storage.{bodySize, stored}
+use Rattle.storage.proofs.Placing.{lent-length, stored-part}
 use Rattle.writer.proofs.bodies.put_symbol.Statement.{statement}
 use Rattle.writer.proofs.bodies.put_symbol.Tie as tie
 

@@ -7,13 +7,13 @@ use borrow.Author.Needs.{needs}
 use lib.ListN.{length}
 use Rattle.field.specs.Shape.{longest}
 use Rattle.field.proofs.Size.{size-small}
-use Rattle.layout.specs.Blocks.{longestFile}
-use Rattle.layout.specs.Storage.{countOf}
+use Rattle.storage.specs.Blocks.{longestFile}
+use Rattle.storage.specs.Storage.{countOf}
 use Rattle.layout.proofs.Holding.{limits}
-use Rattle.writer.specs.File.{symbolAt, fileBundle}
+use Rattle.words.specs.File.{symbolAt, fileBundle}
 use Rattle.writer.specs.Writing.{Onward, Filled}
 use Rattle.writer.proofs.Bundling.{symbol-small}
-use Rattle.writer.proofs.Counting.{n-fits, count-here}
+use Rattle.words.proofs.Counting.{n-fits, count-here}
 use Rattle.writer.proofs.Filling.{still-room, turn-inside, turn-done, turn-onward, turn-filled, block-done}
 use Rattle.writer.proofs.Fronting.{entry-fits}
 use Rattle.writer.proofs.Onward.{onward-none}

@@ -3,7 +3,7 @@
 use native.Mathlib.Omega.{arith}
 use borrow.Author.Needs.{needs}
 use Rattle.layout.proofs.Holding.{limits}
-use Rattle.writer.proofs.Counting.{n-fits, counts-low, counted-more}
+use Rattle.words.proofs.Counting.{n-fits, counts-low, counted-more}
 use Rattle.writer.proofs.bodies.write_block.Statement.{statement}
 use Rattle.writer.proofs.bodies.write_block.Tie as tie
 

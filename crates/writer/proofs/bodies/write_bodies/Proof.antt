@@ -7,11 +7,12 @@ use native.Mathlib.Omega.{arith}
 use borrow.Author.Needs.{needs}
 use lib.ListN.{length}
 use Rattle.field.specs.Shape.{longest}
-use Rattle.layout.specs.Blocks.{longestFile}
+use Rattle.storage.specs.Blocks.{longestFile}
 use Rattle.layout.proofs.Holding.{limits}
-use Rattle.writer.specs.File.{fileBundle}
-use Rattle.writer.specs.Writing.{Counted, Onward, Progress}
-use Rattle.writer.proofs.Counting.{n-fits, counted-none}
+use Rattle.words.specs.File.{fileBundle}
+use Rattle.words.specs.Counts.{Counted}
+use Rattle.writer.specs.Writing.{Onward, Progress}
+use Rattle.words.proofs.Counting.{n-fits, counted-none}
 use Rattle.writer.proofs.Filling.{bundle-stands}
 use Rattle.writer.proofs.Onward.{onward-none, onward-more}
 use Rattle.writer.proofs.bodies.write_bodies.Statement.{statement}

@@ -7,7 +7,7 @@ use native.Mathlib.Nat.{zero-add}
 use native.Mathlib.Omega.{arith}
 use borrow.Author.Needs.{needs}
 use lib.ListN.{length, getD, drop}
-use Rattle.layout.specs.Bytes.{put}
+use Rattle.storage.specs.Bytes.{put}
 use Rattle.poly.specs.Tab.{tab}
 use Rattle.poly.proofs.Tab.{tab-getD}
 use Rattle.poly.proofs.Window.{window, window-none, window-store}

@@ -7,15 +7,15 @@ use borrow.Author.Needs.{needs}
 use lib.ListN.{length}
 use Rattle.field.specs.Shape.{longest}
 use Rattle.field.proofs.Size.{size-small}
-use Rattle.layout.specs.Blocks.{blocksOf, longestFile}
+use Rattle.storage.specs.Blocks.{blocksOf, longestFile}
 use Rattle.layout.specs.Fields.{entryAt}
 use Rattle.layout.specs.Shadows.{headerSize, entrySize, firstBody}
-use Rattle.layout.specs.Storage.{countOf}
+use Rattle.storage.specs.Storage.{countOf}
 use Rattle.layout.proofs.Holding.{limits}
-use Rattle.writer.specs.File.{symbolAt, fileBundle}
+use Rattle.words.specs.File.{symbolAt, fileBundle}
 use Rattle.writer.specs.Writing.{Stand, Onward}
 use Rattle.writer.proofs.Bundling.{bodyAt, body-first, bundle-end}
-use Rattle.writer.proofs.Counting.{n-fits, count-here}
+use Rattle.words.proofs.Counting.{n-fits, count-here}
 use Rattle.writer.proofs.Fronting.{body-low, count-low, body-after, entry-fits, entry-onward, entry-stands}
 use Rattle.writer.proofs.Onward.{onward-none}
 use Rattle.writer.proofs.front.write_table.Statement.{statement}

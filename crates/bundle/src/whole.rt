@@ -1,0 +1,39 @@
+// The whole file of a bundle whose layout is good, or nothing of it. No entry point and for this crate alone: the entry point has made the checks.
+use crate::answer::LengthAnswer;
+use field::Outcome;
+use halving::inner::clear;
+use layout::inner::length_in;
+use reader::inner::clear_bytes;
+use reader::inner::read_blocks;
+use reader::inner::start;
+ghost use mathlib.Core.Path.{_≡_};
+ghost use mathlib.Core.List.{[]};
+ghost use Prim.Native.Nat.{_≤_};
+ghost use lib.ListN.{length};
+ghost use Rattle.field.specs.Leaves.{left};
+ghost use Rattle.field.specs.Refusals.{result};
+ghost use Rattle.layout.specs.Fields.{kIn, nIn, lengthIn, heldIn, blocksIn};
+ghost use Rattle.layout.specs.Layout.{layoutChecks};
+ghost use Rattle.layout.specs.Rooms.{workRoom};
+ghost use Rattle.reader.specs.Reading.{blocksAnswer};
+ghost use Rattle.bundle.specs.Answers.{toldLength};
+ghost use Rattle.bundle.specs.Calls.{blocksLeave};
+
+// The file, or the refusal of a block with the file's bytes zero; cells is the stated working space.
+pub fn read_all(bundle: &[u8], file: &mut [u8], cells: &mut [u32]) -> LengthAnswer
+    requires { ⌜ (layoutChecks (now bundle) ≡ result []) × (kIn (now bundle) ≤ heldIn (now bundle)) × (length (now file) ≡ lengthIn (now bundle)) × (length (now cells) ≡ workRoom (nIn (now bundle))) ⌝ }
+    ensures { λ r. ⌜ left (toldLength r) (now (file .exit)) (now (cells .exit)) ≡ blocksLeave (blocksAnswer (now (bundle .entry)) 0 (blocksIn (now (bundle .entry)))) (now (bundle .entry)) (now (file .entry)) (now (cells .entry)) ⌝ }
+{
+    start(bundle, cells);
+    match read_blocks(bundle, file, cells) {
+        Outcome::Done => {
+            clear(cells);
+            LengthAnswer::Length(length_in(bundle))
+        }
+        Outcome::Refused(refusal) => {
+            clear_bytes(file);
+            clear(cells);
+            LengthAnswer::Refused(refusal)
+        }
+    }
+}

@@ -1,0 +1,4 @@
+pub mod Meeting
+pub mod Points
+pub mod Decoding
+pub mod Spreading

@@ -1,0 +1,13 @@
+-- What decode leaves once its checks have passed.
+use mathlib.Core.List.{List, []}
+use mathlib.Core.Option.{Option, some, none}
+use Prim.Native.Nat.{ℕ}
+use Rattle.field.specs.Leaves.{Leaves, left, written, zeroed}
+use Rattle.field.specs.Refusals.{result, refused}
+use Rattle.field.specs.declared.refusal.Refusal.the-variants.{Disagree}
+use Rattle.code.specs.Rooms.{decodeRoom}
+
+-- the message is written where one fits; where none does, DISAGREE: "the stated working space is zero; a single block's output is untouched"
+abbrev pub decoded : Option (List ℕ) → ℕ → List ℕ → List ℕ → Leaves
+decoded none n out work = left (refused (Disagree 0)) out (zeroed (decodeRoom n) work)
+decoded (some s) n out work = left (result []) (written s out) (zeroed (decodeRoom n) work)

@@ -1,0 +1,13 @@
+pub mod Meeting
+pub mod Code
+pub mod Message
+pub mod Held
+pub mod Fits
+pub mod Decoding
+pub mod Positions
+pub mod Repeats
+pub mod Rooms
+pub mod Decoded
+pub mod Codable
+pub mod Ready
+pub mod Altered

@@ -1,0 +1,46 @@
+// No entry points: the work of encode on input that the checks have passed, for the crates above.
+use field::inner::size;
+use halving::inner::clear;
+use halving::inner::transform;
+ghost use mathlib.Core.Path.{_≡_};
+ghost use mathlib.Core.List.{_++_};
+ghost use Prim.Native.Nat.{_-_, _≤_};
+ghost use lib.ListN.{length, replicate};
+ghost use Rattle.field.specs.Leaves.{written};
+ghost use Rattle.code.specs.Code.{codeWord};
+ghost use Rattle.code.specs.Codable.{Codable};
+ghost use Rattle.code.specs.Rooms.{encodeRoom};
+
+// At the front of to, which stays as it was behind it.
+pub fn copy(from: &[u32], to: &mut [u32])
+    requires { ⌜ length (now from) ≤ length (now to) ⌝ }
+    ensures { λ _. ⌜ now (to .exit) ≡ written (now (from .entry)) (now (to .entry)) ⌝ }
+{
+    let mut i = 0;
+    while i < from.len() {
+        to[i] = from[i];
+        i += 1;
+    }
+}
+
+// The message as the first of N coefficients, the others 0.
+fn lay(message: &[u32], cells: &mut [u32])
+    requires { ⌜ length (now message) ≤ length (now cells) ⌝ }
+    ensures { λ _. ⌜ now (cells .exit) ≡ now (message .entry) ++ replicate (length (now (cells .entry)) - length (now (message .entry))) 0 ⌝ }
+{
+    copy(message, cells);
+    clear(&mut cells[message.len()..]);
+}
+
+// The code word by one transform; cells is the stated working space.
+pub fn spread(n: usize, message: &[u32], out: &mut [u32], cells: &mut [u32])
+    requires { ⌜ Codable n (now message) × (n ≤ length (now out)) × (length (now cells) ≡ encodeRoom n) ⌝ }
+    ensures { λ _. ⌜ now (out .exit) ≡ written (codeWord n (now (message .entry))) (now (out .entry)) ⌝ }
+    ensures { λ _. ⌜ now (cells .exit) ≡ replicate (encodeRoom n) 0 ⌝ }
+{
+    let size = size(n);
+    lay(message, &mut cells[0..size]);
+    transform(&mut cells[0..size]);
+    copy(&cells[0..n], out);
+    clear(cells);
+}

@@ -1,0 +1,10 @@
+pub mod Ready
+pub mod Sums
+pub mod Round
+pub mod Undo
+pub mod Order
+pub mod Arranging
+pub mod Joining
+pub mod Halves
+pub mod Steps
+pub mod Theorems

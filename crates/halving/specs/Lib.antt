@@ -1,0 +1,6 @@
+pub mod Transform
+pub mod Halving
+pub mod Order
+pub mod InPlace
+pub mod Ready
+pub mod Theorems

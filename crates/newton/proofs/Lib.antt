@@ -1,0 +1,4 @@
+pub mod Interpolating
+pub mod Finding
+pub mod HeldWithin
+pub mod Recovering

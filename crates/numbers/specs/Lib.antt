@@ -1,0 +1,3 @@
+pub mod Operations
+pub mod Points
+pub mod Theorems

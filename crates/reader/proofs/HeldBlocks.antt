@@ -1,0 +1,51 @@
+-- What a bundle of good layout holds for a block: it is ready to be decoded.
+-- Assumes nothing.
+use mathlib.Core.Path.{_≡_, sym, _∙_}
+use mathlib.Core.List.{List, []}
+use Prim.Native.Nat.{ℕ, _<_, _≤_}
+use native.Mathlib.Omega.{arith}
+use lib.ListN.{length, getD, drop}
+use Rattle.field.specs.Refusals.{result}
+use Rattle.poly.proofs.Symbols.{tab-symbols}
+use Rattle.poly.proofs.Tab.{tab-length, tab-at}
+use Rattle.code.specs.Held.{held}
+use Rattle.code.specs.Ready.{Ready}
+use Rattle.storage.specs.Bytes.{Bytes}
+use Rattle.layout.specs.Fields.{kIn, nIn, heldIn, positionIn, countIn, offsetIn}
+use Rattle.layout.specs.Layout.{layoutChecks}
+use Rattle.storage.proofs.BytesLaws.{bytes-drop}
+use Rattle.layout.proofs.Passing.{shape-passed, position-below, position-after}
+use Rattle.storage.proofs.Theorems.{symbols-read}
+use Rattle.reader.specs.Reading.{symbolHeld, heldAt}
+
+module _ (s : List ℕ) (b : ℕ) where
+  pub held-count : length (heldAt s b .positions) ≡ heldIn s
+  unfolding heldAt held
+  held-count = tab-length (heldIn s) (positionIn s)
+
+  pub held-position : (j : ℕ) → j < heldIn s → getD (heldAt s b .positions) j 0 ≡ positionIn s j
+  unfolding heldAt held
+  held-position j h = tab-at (heldIn s) (positionIn s) j h
+
+  pub held-value : (j : ℕ) → j < heldIn s → getD (heldAt s b .values) j 0 ≡ symbolHeld s b j
+  unfolding heldAt held
+  held-value j h = tab-at (heldIn s) (symbolHeld s b) j h
+
+  symbol-held : Bytes s → (t : ℕ) → symbolHeld s b t < 65537
+  unfolding symbolHeld
+  symbol-held bytes t = symbols-read (countIn s t) b (drop (offsetIn s t) s) (bytes-drop (offsetIn s t) s bytes)
+
+  pub ready : Bytes s → layoutChecks s ≡ result [] → kIn s ≤ heldIn s → Ready (kIn s) (nIn s) (heldAt s b)
+  unfolding heldAt held
+  ready bytes good enough =
+      record {
+        shape = shape-passed s good;
+        paired = held-count ∙ sym (tab-length (heldIn s) (symbolHeld s b));
+        enough = omega (arith, held-count);
+        inside =
+            λ i h. let less : i < heldIn s = omega (arith, held-count) in omega (arith, held-position i less, position-below s good i less);
+        apart =
+            λ i j h l e. let less : j < heldIn s = omega (arith, held-count) in
+            omega (arith, held-position i (omega arith), held-position j less, position-after s good i j h less);
+        symbols = tab-symbols (heldIn s) (symbolHeld s b) (λ i h. symbol-held bytes i);
+      }

@@ -1,0 +1,104 @@
+-- The laws of a cursor in an overflow list: with it, one look tells whether a block is listed, and where the cursor of the next block is.
+-- Assumes nothing.
+use mathlib.Core.Path.{_≡_, subst, sym, ap, _∙_}
+use mathlib.Core.Bool.{Bool, true, false, _&&_}
+use mathlib.Core.List.{List}
+use Prim.Native.Nat.{ℕ, suc, _<_, _≤_}
+use native.Mathlib.Decide.{decLt}
+use native.Mathlib.Omega.{arith}
+use borrow.Author.Tests.{lt-ltb, le-leb, lt-leb, ltb-true, leb-true, leb-false, eqb-true, eqb-false}
+use lib.Dec.{ltb, leb, eqb}
+use Rattle.field.specs.First.{first}
+use Rattle.field.proofs.First.{first-here, first-all, first-le, first-before, first-holds}
+use Rattle.storage.specs.Rising.{rises}
+use Rattle.storage.specs.Storage.{listAt, listed, cursorIn}
+use Rattle.storage.proofs.RisingLaws.{rising-apart}
+use Rattle.storage.proofs.Storing.{both, listed-true, listed-false}
+
+-- an index before which the test fails, and at which it holds if it is inside
+first-is : (n i : ℕ) (test : ℕ → Bool) → i ≤ n → ((k : ℕ) → k < i → test k ≡ false) → (i < n → test i ≡ true) → first n test ≡ i
+first-is n i test h before here =
+    elim (decLt i n) [
+      | yes l ↦ first-here n i test l before (here l)
+      | no g ↦ first-all n i test h (omega (arith, g)) before
+    ]
+
+pub cursor-zero : (c : ℕ) (body : List ℕ) → cursorIn c body 0 ≡ 0
+unfolding cursorIn
+cursor-zero c body =
+    first-is c 0 _ (omega arith) (λ k l. absurd (let no : k < 0 = l in omega arith)) (λ h. le-leb 0 (listAt body 0) (omega arith))
+
+-- d is the cursor of block b in a list that rises
+module _ (B c : ℕ) (body : List ℕ) (b d : ℕ) (rise : rises B c (listAt body) ≡ true) (is : d ≡ cursorIn c body b) where
+  pub cursor-le : d ≤ c
+  unfolding cursorIn
+  cursor-le = subst (λ (z : ℕ). z ≤ c) (sym is) (first-le c _)
+
+  below : (j : ℕ) → j < d → listAt body j < b
+  unfolding cursorIn
+  below j h = leb-false b (listAt body j) (first-before c (λ i. leb b (listAt body i)) j (subst (λ (z : ℕ). j < z) is h))
+
+  at-least : d < c → b ≤ listAt body d
+  unfolding cursorIn
+  at-least h =
+      subst (λ (z : ℕ). b ≤ listAt body z) (sym is)
+      (leb-true b _ (first-holds c (λ i. leb b (listAt body i)) (subst (λ (z : ℕ). z < c) is h)))
+
+  -- block b is next in the list
+  module _ (next : ltb d c && eqb (listAt body d) b ≡ true) where
+    inside : d < c
+    inside = ltb-true d c (both (ltb d c) (eqb (listAt body d) b) next .0)
+
+    here : listAt body d ≡ b
+    here = eqb-true (listAt body d) b (both (ltb d c) (eqb (listAt body d) b) next .1)
+
+    pub next-listed : listed c body b ≡ true
+    next-listed = listed-true c body b d inside here
+
+    pub next-cursor : suc d ≡ cursorIn c body (suc b)
+    unfolding cursorIn
+    next-cursor =
+        sym (first-is c (suc d) _ inside
+        (λ k l. lt-leb (suc b) (listAt body k) (passed k (omega (arith, l))))
+        (λ h. le-leb (suc b) (listAt body (suc d)) (omega (arith, rising-apart B c (listAt body) rise d (suc d) (omega arith) h, here))))
+      where
+        passed : (k : ℕ) → k ≤ d → listAt body k < suc b
+        passed k le =
+            elim (decLt k d) [
+              | yes l ↦ omega (arith, below k l)
+              | no g ↦ omega (arith, here, ap (listAt body) {x = k} {y = d} (omega (arith, g)))
+            ]
+
+  -- it is not
+  module _ (other : ltb d c && eqb (listAt body d) b ≡ false) where
+    above : d < c → b < listAt body d
+    above h =
+        elim (decLt b (listAt body d)) [
+          | yes l ↦ l
+          | no g ↦ absurd (not-here (omega (arith, g, at-least h)))
+        ]
+      where
+        not-here : ¬ (listAt body d ≡ b)
+        not-here = eqb-false (listAt body d) b (ap (λ (t : Bool). t && eqb (listAt body d) b) (sym (lt-ltb d c h)) ∙ other)
+
+    pub other-listed : listed c body b ≡ false
+    other-listed = listed-false c body b none
+      where
+        none : (j : ℕ) → j < c → listAt body j ≡ b → ⊥
+        none j h same =
+            elim (decLt j d) [
+              | yes l ↦ omega (arith, below j l, same)
+              | no g ↦ later (omega (arith, g))
+            ]
+          where
+            later : d ≤ j → ⊥
+            later le =
+                elim (decLt d j) [
+                  | yes l ↦ omega (arith, rising-apart B c (listAt body) rise d j l h, above (omega (arith, l, h)), same)
+                  | no g ↦ omega (arith, ap (listAt body) {x = j} {y = d} (omega (arith, g, le)), above (omega (arith, le, h)), same)
+                ]
+
+    pub other-cursor : d ≡ cursorIn c body (suc b)
+    unfolding cursorIn
+    other-cursor =
+        sym (first-is c d _ cursor-le (λ k l. lt-leb (suc b) (listAt body k) (omega (arith, below k l))) (λ h. le-leb (suc b) (listAt body d) (above h)))

@@ -1,0 +1,8 @@
+pub mod BytesLaws
+pub mod BlocksLaws
+pub mod PutLaws
+pub mod RisingLaws
+pub mod Storing
+pub mod Placing
+pub mod Cursors
+pub mod Theorems

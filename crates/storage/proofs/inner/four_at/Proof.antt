@@ -1,0 +1,18 @@
+-- `storage::inner::four_at` meets its contract: two numbers of two bytes, the first one times 65536.
+-- Assumes nothing.
+use borrow.Author.Needs.{needs}
+use Rattle.storage.specs.Bytes.{fourAt}
+use Rattle.storage.proofs.inner.four_at.Statement.{statement}
+use Rattle.storage.proofs.inner.four_at.Tie as tie
+
+pub four-at-spec : {M : Type 1} → statement M
+unfolding fourAt
+four-at-spec =
+    tie.close
+    (tie.spec
+    (λ c κs. search needs)
+    (λ c. search needs)
+    (λ c. search needs)
+    (λ c κs. search needs)
+    (λ c. search needs)
+    (λ c. search needs))

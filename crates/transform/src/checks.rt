@@ -1,0 +1,39 @@
+// The checks of both entry points, in document 01's order. They write nothing.
+use field::Outcome;
+use field::Refusal;
+use field::inner::LONGEST;
+use field::inner::first_above;
+use field::inner::size;
+ghost use mathlib.Core.Path.{_≡_};
+ghost use Rattle.field.specs.Refusals.{toldOutcome};
+ghost use Rattle.transform.specs.Calls.{judged};
+ghost use Rattle.transform.specs.Lengths.{badLength};
+
+// Whether SHAPE refuses a list of that length.
+fn bad_length(length: usize) -> bool
+    ensures { λ r. ⌜ r ≡ badLength length ⌝ }
+{
+    if length == 0 {
+        return true;
+    }
+    if LONGEST < length {
+        return true;
+    }
+    size(length) != length
+}
+
+pub fn judge(list: &[u32], room: usize) -> Outcome
+    ensures { λ r. ⌜ toldOutcome r ≡ judged (now (list .entry)) room ⌝ }
+{
+    if bad_length(list.len()) {
+        return Outcome::Refused(Refusal::Shape);
+    }
+    if room < list.len() {
+        return Outcome::Refused(Refusal::Room);
+    }
+    let i = first_above(list);
+    if i < list.len() {
+        return Outcome::Refused(Refusal::Value(i));
+    }
+    Outcome::Done
+}

@@ -1,0 +1,3 @@
+pub mod Padding
+pub mod Messages
+pub mod Counting

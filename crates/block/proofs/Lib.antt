@@ -1,6 +1,3 @@
-pub mod Bitmap
-pub mod Repeating
-pub mod Outside
 pub mod Passing
 pub mod Calling
 pub mod Agreement

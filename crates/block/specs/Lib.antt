@@ -1,4 +1,3 @@
-pub mod Bitmap
 pub mod Checks
 pub mod Calls
 pub mod Theorems

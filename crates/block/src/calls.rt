@@ -5,7 +5,7 @@ use crate::rooms::decode_room;
 use crate::rooms::encode_room;
 use code::inner::spread;
 use field::Outcome;
-use newton::inner::recover;
+use recover::inner::recover;
 ghost use mathlib.Core.Path.{_≡_};
 ghost use Rattle.field.specs.Leaves.{left};
 ghost use Rattle.field.specs.Refusals.{toldOutcome};

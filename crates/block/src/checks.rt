@@ -1,32 +1,16 @@
 // The checks of encode and decode, in document 01's order. They write nothing.
-use crate::repeats::first_repeat;
 use crate::rooms::decode_room;
 use crate::rooms::encode_room;
 use field::Outcome;
 use field::Refusal;
 use field::inner::bad_shape;
 use field::inner::first_above;
-use field::inner::position;
 use field::inner::too_short;
+use positions::inner::first_outside;
+use positions::inner::first_repeat;
 ghost use mathlib.Core.Path.{_≡_};
 ghost use Rattle.field.specs.Refusals.{toldOutcome};
 ghost use Rattle.block.specs.Checks.{encodeChecks, decodeChecks};
-ghost use Rattle.code.specs.Positions.{firstOutside};
-
-// The index of the first position that is n or more, the list's length where none is.
-fn first_outside(n: usize, positions: &[u32]) -> usize
-    ensures { λ r. ⌜ r ≡ firstOutside n (now (positions .entry)) ⌝ }
-{
-    let mut i = 0;
-    while i < positions.len() {
-        let here = position(positions[i]);
-        if n <= here.0 {
-            return i;
-        }
-        i += 1;
-    }
-    i
-}
 
 // out and work are the lengths of the output and of the working space.
 pub fn encode_checks(k: usize, n: usize, message: &[u32], out: usize, work: usize) -> Outcome

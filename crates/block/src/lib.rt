@@ -1,7 +1,6 @@
 // One block: its code word from the message, and the message from any k or more symbols of the code word.
 mod calls;
 mod checks;
-mod repeats;
 mod rooms;
 
 pub use calls::decode;

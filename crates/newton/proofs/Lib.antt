@@ -1,4 +1,2 @@
 pub mod Interpolating
 pub mod Finding
-pub mod HeldWithin
-pub mod Recovering

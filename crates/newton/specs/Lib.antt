@@ -1,2 +1,1 @@
 pub mod Newton
-pub mod Within

@@ -1,5 +1,2 @@
-// The message that fits all held symbols, found by Newton's interpolation: the polynomial through the first k, compared with all m.
-mod apart;
+// The polynomial through the first k held symbols, by Newton's interpolation.
 pub mod inner;
-mod steps;
-mod within;

@@ -1,0 +1,20 @@
+// No entry points: the tests of a list of positions, POSITION and REPEAT, for the crate above. They write nothing.
+pub use crate::repeats::first_repeat;
+use field::inner::position;
+ghost use mathlib.Core.Path.{_≡_};
+ghost use Rattle.code.specs.Positions.{firstOutside};
+
+// The index of the first position that is n or more, the list's length where none is.
+pub fn first_outside(n: usize, positions: &[u32]) -> usize
+    ensures { λ r. ⌜ r ≡ firstOutside n (now (positions .entry)) ⌝ }
+{
+    let mut i = 0;
+    while i < positions.len() {
+        let here = position(positions[i]);
+        if n <= here.0 {
+            return i;
+        }
+        i += 1;
+    }
+    i
+}

@@ -1,0 +1,2 @@
+pub mod HeldWithin
+pub mod Recovering

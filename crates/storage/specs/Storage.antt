@@ -1,5 +1,5 @@
 -- How a body stores B symbols (document 01, "The bundle"): "A body is c block numbers of 2 bytes, rising strictly, each below B; then B words of
--- 2 bytes, one for each block." How a symbol is stored is said here and nowhere else in specs/ of this crate.
+-- 2 bytes, one for each block." How a symbol is stored is said here.
 use mathlib.Core.Bool.{Bool, cond, _&&_}
 use mathlib.Core.List.{List, [], _∷_, _++_}
 use Prim.Native.Nat.{ℕ, zero, suc, _+_, _*_}

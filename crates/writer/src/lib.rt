@@ -1,4 +1,4 @@
-// The bundle of a file: what it is, and how it is written.
+// How the bundle of a file is written.
 mod bodies;
 mod front;
 pub mod inner;

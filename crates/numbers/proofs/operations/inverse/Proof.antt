@@ -1,4 +1,4 @@
--- `field::inverse` meets its contract: what is above 65536, and 0, is refused at index 0.
+-- `numbers::operations::inverse` meets its contract: what is above 65536, and 0, is refused at index 0.
 -- Assumes nothing.
 use mathlib.Core.Path.{ap}
 use mathlib.Core.List.{[], _∷_}

@@ -1,4 +1,4 @@
--- `field::point_at` meets its contract: SHAPE, then POSITION, then the point by N.
+-- `numbers::points::point_at` meets its contract: SHAPE, then POSITION, then the point by N.
 -- Assumes nothing.
 use mathlib.Core.Path.{sym, ap, _∙_}
 use mathlib.Core.List.{[], _∷_}

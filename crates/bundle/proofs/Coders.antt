@@ -39,7 +39,7 @@ use Rattle.layout.proofs.Passing.{entry-there}
 use Rattle.words.specs.File.{padded, messageAt, symbolAt, countAt, shadowOf, bundleAt, fileBundle}
 use Rattle.layout.specs.Rooms.{writeRoom, workRoom}
 use Rattle.bundle.specs.Useless.{Coder, KeepsEncode, KeepsDecode, KeepsWrite, KeepsRead, Refused, AnswersSome, NotConstant, WritesSomething, CodesLaterBlocks, InventsNothing, Useless}
-use Rattle.writer.proofs.Bundling.{file-is-bundle, held-all, all-rise, bundle-count}
+use Rattle.front.proofs.Bundling.{file-is-bundle, held-all, all-rise, bundle-count}
 use Rattle.bundle.proofs.Demands.{writes-bundle, write-read}
 use Rattle.bundle.proofs.Shadowing.{bundle-bytes}
 use Rattle.words.proofs.Padding.{zeros-behind}

@@ -25,7 +25,7 @@ use Rattle.bundle.specs.Theorems.{WritesBundle, WriteRead, LoseRead, Dis
 use Rattle.bundle.proofs.BlockAnswers.{block-disagrees}
 use Rattle.reader.proofs.HeldBlocks.{ready}
 use Rattle.bundle.proofs.Passing.{write-passes, after-passed, after-disagree, read-before, read-passed}
-use Rattle.writer.proofs.Bundling.{file-is-bundle, held-all, all-rise}
+use Rattle.front.proofs.Bundling.{file-is-bundle, held-all, all-rise}
 use Rattle.bundle.proofs.Shadowing.{bundle-bytes, none-altered}
 use Rattle.bundle.proofs.Taking.{demand}
 use Rattle.bundle.proofs.Walking.{first-refused, disagree-first, read-leaves, read-answer}

@@ -27,7 +27,7 @@ use Rattle.storage.proofs.Theorems.{body-stores}
 use Rattle.words.specs.File.{Rising, messageAt, symbolAt, bundleAt}
 use Rattle.reader.specs.Reading.{symbolHeld, heldAt}
 use Rattle.words.proofs.Padding.{message-is}
-use Rattle.writer.proofs.Bundling.{symbol-small, held-all, position-held, count-held, body-held}
+use Rattle.front.proofs.Bundling.{symbol-small, held-all, position-held, count-held, body-held}
 use Rattle.reader.proofs.HeldBlocks.{held-count, held-position, held-value}
 
 -- A bundle's numbers are bytes

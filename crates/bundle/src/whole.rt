@@ -1,9 +1,9 @@
 // The whole file of a bundle whose layout is good, or nothing of it. No entry point and for this crate alone: the entry point has made the checks.
 use crate::answer::LengthAnswer;
+use cells::inner::clear;
+use cells::inner::clear_bytes;
 use field::Outcome;
-use halving::inner::clear;
 use layout::inner::length_in;
-use reader::inner::clear_bytes;
 use reader::inner::read_blocks;
 use reader::inner::start;
 ghost use mathlib.Core.Path.{_≡_};

@@ -1,6 +1,7 @@
 // No entry points: the work of encode on input that the checks have passed, for the crates above.
+use cells::inner::clear;
+use cells::inner::copy;
 use field::inner::size;
-use halving::inner::clear;
 use halving::inner::transform;
 ghost use mathlib.Core.Path.{_≡_};
 ghost use mathlib.Core.List.{_++_};
@@ -10,18 +11,6 @@ ghost use Rattle.field.specs.Leaves.{written};
 ghost use Rattle.code.specs.Code.{codeWord};
 ghost use Rattle.code.specs.Codable.{Codable};
 ghost use Rattle.code.specs.Rooms.{encodeRoom};
-
-// At the front of to, which stays as it was behind it.
-pub fn copy(from: &[u32], to: &mut [u32])
-    requires { ⌜ length (now from) ≤ length (now to) ⌝ }
-    ensures { λ _. ⌜ now (to .exit) ≡ written (now (from .entry)) (now (to .entry)) ⌝ }
-{
-    let mut i = 0;
-    while i < from.len() {
-        to[i] = from[i];
-        i += 1;
-    }
-}
 
 // The message as the first of N coefficients, the others 0.
 fn lay(message: &[u32], cells: &mut [u32])

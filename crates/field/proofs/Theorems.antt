@@ -11,7 +11,7 @@ use Rattle.field.specs.Field.{product, power}
 use Rattle.field.specs.Points.{rootOf, pointOf}
 use Rattle.field.specs.Roots.{root}
 use Rattle.field.specs.Size.{levelOf, sizeOf}
-use Rattle.field.specs.Theorems.{CommutativeRing, Inverses, NoZeroDivisors, RootSquares, RootPowers, RootOrders, RootHalves, RootPowersDistinct, SizeSmallest, RootOfSize, PointsDistinct, RefusalsTold, NumberSettled, PlaceSettled, SymbolSettled}
+use Rattle.field.specs.Theorems.{CommutativeRing, Inverses, NoZeroDivisors, RootSquares, RootPowers, RootOrders, RootHalves, RootPowersDistinct, SizeSmallest, RootOfSize, PointsDistinct, RefusalsTold, SymbolSettled}
 use Rattle.field.proofs.Congruence.{reduced}
 use Rattle.field.proofs.Fermat.{inverse-≈, no-divisors}
 use Rattle.field.proofs.Refusals as R
@@ -85,12 +85,6 @@ points-distinct n i j li lj e = root-powers-distinct (levelOf n) (level-le n) i 
 
 pub refusals-told : RefusalsTold
 refusals-told = R.refusals-told
-
-pub number-settled : NumberSettled
-number-settled x r s p q = p ∙ sym q
-
-pub place-settled : PlaceSettled
-place-settled x r s p q = p ∙ sym q
 
 pub symbol-settled : SymbolSettled
 symbol-settled v r s p q = p .is ∙ sym (q .is)

@@ -4,7 +4,7 @@ use mathlib.Core.Logic.{_⊎_}
 use Prim.Native.Nat.{ℕ, suc, _-_, _^_, _<_, _≤_}
 use Rattle.field.specs.Field.{sum, difference, product, power, inverse}
 use Rattle.field.specs.Points.{rootOf, pointOf}
-use Rattle.field.specs.Refusals.{refused, numberOf, placeOf}
+use Rattle.field.specs.Refusals.{refused}
 use Rattle.field.specs.Roots.{root, HasOrder}
 use Rattle.field.specs.Size.{sizeOf}
 use Rattle.field.specs.Symbol.{IsSymbol}
@@ -73,12 +73,6 @@ PointsDistinct =
 -- number and place tell the refusal
 abbrev pub RefusalsTold : Type 0
 RefusalsTold = (x y : Refusal) → refused x ≡ refused y → x ≡ y
-
-abbrev pub NumberSettled : Type 0
-NumberSettled = (x : Refusal) (r s : ℕ) → r ≡ numberOf x → s ≡ numberOf x → r ≡ s
-
-abbrev pub PlaceSettled : Type 0
-PlaceSettled = (x : Refusal) (r s : ℕ) → r ≡ placeOf x → s ≡ placeOf x → r ≡ s
 
 -- what an inner function promises of a symbol settles it too
 abbrev pub SymbolSettled : Type 0

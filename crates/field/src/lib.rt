@@ -7,5 +7,3 @@ pub use points::Point;
 pub use points::Position;
 pub use refusal::Outcome;
 pub use refusal::Refusal;
-pub use refusal::number;
-pub use refusal::place;

@@ -1,5 +1,5 @@
-// No entry points: the transform and its inverse in the list itself, with no room beside it. Those that ask for a good list say so; scaling and
-// clearing take any. The list is put in the order in which its even places are the front half and its odd places the back half, at every size;
+// No entry points: the transform and its inverse in the list itself, with no room beside it. Those that ask for a good list say so; scaling
+// takes any. The list is put in the order in which its even places are the front half and its odd places the back half, at every size;
 // then halves are halved until one number is left, and joined in place.
 use field::inner::difference;
 use field::inner::level;
@@ -8,7 +8,7 @@ use field::inner::root;
 use field::inner::sum;
 ghost use mathlib.Core.Path.{_≡_};
 ghost use Prim.Native.Nat.{_%_, _<_};
-ghost use lib.ListN.{length, getD, replicate};
+ghost use lib.ListN.{length, getD};
 ghost use Rattle.field.specs.Field.{product};
 ghost use Rattle.field.specs.Size.{levelOf, sizeOf};
 ghost use Rattle.field.specs.Symbol.{Symbols};
@@ -124,14 +124,4 @@ pub fn inverse(list: &mut [u32])
     arrange(list);
     halve(list, back);
     scale(list, part);
-}
-
-pub fn clear(cells: &mut [u32])
-    ensures { λ _. ⌜ now (cells .exit) ≡ replicate (length (now (cells .entry))) 0 ⌝ }
-{
-    let mut at = 0;
-    while at < cells.len() {
-        cells[at] = 0;
-        at += 1;
-    }
 }

@@ -1,5 +1,6 @@
 // No entry points: the polynomial through the first k held symbols in 2k + 1 cells, F's k coefficients and then the k + 1 of L, a point more at a
 // time, for the crate above. Its caller has made the checks.
+use cells::inner::clear;
 use field::inner::difference;
 use field::inner::inverse;
 use field::inner::point;
@@ -7,7 +8,6 @@ use field::inner::position;
 use field::inner::product;
 use field::inner::size;
 use field::inner::sum;
-use halving::inner::clear;
 use poly::inner::value;
 ghost use mathlib.Core.Path.{_≡_};
 ghost use mathlib.Core.List.{_++_};

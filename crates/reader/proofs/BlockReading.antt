@@ -30,9 +30,9 @@ use Rattle.code.specs.Decoding.{decodeOf}
 use Rattle.code.specs.Held.{held}
 use Rattle.code.specs.Meeting.{messageOf}
 use Rattle.code.specs.Ready.{Ready}
-use Rattle.recover.specs.Within.{positionsWithin, valuesWithin, heldWithin}
+use Rattle.within.specs.Within.{positionsWithin, valuesWithin, heldWithin}
 use Rattle.code.proofs.Decoding.{decodes-fitting}
-use Rattle.recover.proofs.HeldWithin.{same-later, same-behind}
+use Rattle.within.proofs.HeldWithin.{same-later, same-behind}
 use Rattle.code.proofs.Meeting.{message-is}
 use Rattle.storage.specs.Blocks.{blocksOf}
 use Rattle.storage.specs.Bytes.{Bytes, inBytes}

@@ -16,8 +16,8 @@ use Rattle.field.proofs.Shape.{longest-le}
 use Rattle.field.proofs.Size.{size-enough}
 use Rattle.poly.specs.Tab.{tab}
 use Rattle.poly.proofs.Tab.{tab-length, tab-ext, tab-getD}
-use Rattle.recover.specs.Within.{positionsWithin, valuesWithin}
-use Rattle.recover.proofs.HeldWithin.{held-long, value-at}
+use Rattle.within.specs.Within.{positionsWithin, valuesWithin}
+use Rattle.within.proofs.HeldWithin.{held-long, value-at}
 use Rattle.layout.specs.Fields.{nIn, heldIn, blocksIn, positionIn, countIn, offsetIn}
 use Rattle.layout.specs.Layout.{layoutChecks}
 use Rattle.storage.specs.Storage.{bodyGood}

@@ -6,7 +6,7 @@ use Prim.Native.Nat.{ℕ, _+_, _*_, _<_}
 use lib.ListN.{length, getD, drop}
 use Rattle.field.specs.Size.{sizeOf}
 use Rattle.poly.specs.Tab.{tab}
-use Rattle.recover.specs.Within.{positionsWithin}
+use Rattle.within.specs.Within.{positionsWithin}
 use Rattle.layout.specs.Fields.{nIn, heldIn, positionIn, countIn, offsetIn}
 use Rattle.storage.specs.Storage.{cursorIn}
 use Rattle.layout.specs.Rooms.{workRoom}

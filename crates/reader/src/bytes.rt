@@ -5,7 +5,7 @@ ghost use mathlib.Core.Bool.{not};
 ghost use mathlib.Core.List.{_++_};
 ghost use Prim.Native.Nat.{ℕ, _+_, _*_, _-_, _<_, _≤_};
 ghost use lib.Dec.{eqb};
-ghost use lib.ListN.{length, getD, take, drop, replicate};
+ghost use lib.ListN.{length, getD, take, drop};
 ghost use Rattle.storage.specs.Bytes.{inBytes};
 ghost use Rattle.reader.specs.Reading.{some-meets, badWord};
 
@@ -59,15 +59,5 @@ pub fn lay_bytes(message: &[u32], from: usize, file: &mut [u8])
         }
         file[from + i] = byte_of(message, i) as u8;
         i += 1;
-    }
-}
-
-pub fn clear_bytes(bytes: &mut [u8])
-    ensures { λ _. ⌜ now (bytes .exit) ≡ replicate (length (now (bytes .entry))) 0 ⌝ }
-{
-    let mut at = 0;
-    while at < bytes.len() {
-        bytes[at] = 0;
-        at += 1;
     }
 }

@@ -1,2 +1,1 @@
-pub mod HeldWithin
 pub mod Recovering

@@ -5,16 +5,15 @@ use mathlib.Core.Bool.{Bool, true, false, cond}
 use mathlib.Core.List.{List, [], _++_}
 use mathlib.Core.Option.{Option, some, none}
 use Prim.Native.Nat.{ℕ, _+_, _-_, _*_, _≤_}
-use native.Mathlib.Decide.{decLe}
-use native.Mathlib.Nat.{le-trans, lt-of-not-le}
+use native.Mathlib.Nat.{le-trans}
 use native.Mathlib.Omega.{arith}
-use borrow.Author.Tests.{lt-ltb, le-ltb, le-leb, lt-leb}
 use lib.Dec.{ltb, leb}
 use lib.ListN.{length, take, drop, replicate, length-append}
 use lib.Seq.{take-append-le}
 use Rattle.field.specs.Leaves.{left, written, zeroed}
 use Rattle.field.specs.Refusals.{result, refused}
 use Rattle.field.specs.declared.refusal.Refusal.the-variants.{Disagree}
+use Rattle.field.proofs.Checks.{turned}
 use Rattle.field.proofs.Leaves.{lent-length, zeroed-all}
 use Rattle.field.proofs.Shape.{shape-good, longest-le}
 use Rattle.field.proofs.Size.{size-enough}
@@ -25,14 +24,6 @@ use Rattle.code.specs.Meeting.{messageOf}
 use Rattle.code.specs.Ready.{Ready}
 use Rattle.code.specs.Rooms.{decodeRoom}
 use Rattle.code.proofs.Meeting.{message-is}
-
--- "at least" is "not below"
-pub turned : {A : Type 0} (m w : ℕ) (x y : A) → cond (ltb w m) y x ≡ cond (leb m w) x y
-turned m w x y =
-    elim (decLe m w) [
-      | yes le ↦ rw (le-ltb w m le, le-leb m w le)
-      | no gt ↦ rw (lt-ltb w m (lt-of-not-le gt), lt-leb m w (lt-of-not-le gt))
-    ]
 
 module _ (k n : ℕ) (h : Held) (ready : Ready k n h) (cells : List ℕ) (long : length cells ≡ decodeRoom n) where
   pub cells-enough : 2 * k + 1 ≤ length cells

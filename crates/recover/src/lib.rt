@@ -1,4 +1,2 @@
-// The message that fits all held symbols, or that none does: the polynomial through the first k, compared with all m.
-mod apart;
+// The message that fits all held symbols, or that none does, where positions and values are lent as lists of their own, as decode has them.
 pub mod inner;
-mod within;

@@ -1,10 +1,10 @@
 -- Status and number are the answer's, so the face tells what the functions behind it answer.
 -- Assumes nothing.
-use mathlib.Core.Path.{_≡_, ap, ap₂, _∙_}
+use mathlib.Core.Path.{_≡_, ap, _∙_}
 use mathlib.Core.List.{List, [], _∷_}
 use Prim.Native.Nat.{ℕ}
 use Rattle.field.specs.Leaves.{Leaves, left}
-use Rattle.field.specs.Refusals.{Answer, result, refused, numberOf, placeOf, toldOutcome}
+use Rattle.field.specs.Refusals.{Answer, result, refused, toldOutcome}
 use Rattle.field.specs.declared.refusal.Outcome.{Outcome}
 use Rattle.field.specs.declared.refusal.Refusal.{Refusal}
 use Rattle.layout.specs.Facts.{toldFacts, toldEntry}
@@ -14,10 +14,8 @@ use Rattle.layout.specs.declared.facts.Facts.{Facts}
 use Rattle.layout.specs.declared.facts.FactsAnswer.the-variants as F
 use Rattle.bundle.specs.Answers.{toldLength}
 use Rattle.bundle.specs.declared.answer.LengthAnswer.{LengthAnswer}
-use Rattle.sulmirejo.specs.Face.{Returned, status-number, returned, returnedNumber, with-point, pointReturned, with-lists, listsReturned, listsReturnedNumber, with-facts, factsReturned, with-entry, entryReturned}
-
-pub refused-returned : (x : Refusal) (s p : ℕ) → s ≡ numberOf x → p ≡ placeOf x → status-number s p ≡ returned (refused x)
-refused-returned x s p number place = ap₂ status-number number place
+use Rattle.telling.specs.Telling.{Returned, status-number, returned}
+use Rattle.sulmirejo.specs.Face.{returnedNumber, with-point, pointReturned, with-lists, listsReturned, listsReturnedNumber, with-facts, factsReturned, with-entry, entryReturned}
 
 pub point-found : (a : Answer) (before v s p : ℕ) → result (v ∷ []) ≡ a → status-number s p ≡ returned (result [])
     → with-point (status-number s p) v ≡ pointReturned a before

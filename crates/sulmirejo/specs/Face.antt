@@ -4,17 +4,7 @@ use Prim.Native.Nat.{ℕ}
 use lib.ListN.{getD}
 use Rattle.field.specs.Leaves.{Leaves}
 use Rattle.field.specs.Refusals.{Answer, result, refusal}
-
-pub record Returned : Type 0 where
-  pub status : ℕ
-  pub number : ℕ
-
-abbrev pub status-number : ℕ → ℕ → Returned
-status-number status number = record { status = status; number = number }
-
-abbrev pub returned : Answer → Returned
-returned (result vs) = status-number 0 0
-returned (refusal n i) = status-number n i
+use Rattle.telling.specs.Telling.{Returned, status-number, returned}
 
 -- where the result is one number, `number` takes it
 abbrev pub returnedNumber : Answer → Returned

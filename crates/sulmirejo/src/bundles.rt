@@ -1,14 +1,15 @@
 // The part of the face that has to do with bundles: the writer, the reader, and what a bundle's header and table say.
-use crate::tell;
 use bundle::LengthAnswer;
 use field::Outcome;
 use layout::EntryAnswer;
 use layout::FactsAnswer;
+use telling::tell;
 ghost use mathlib.Core.Path.{_≡_};
 ghost use Rattle.layout.specs.Facts.{factsAnswer, entryAnswer};
 ghost use Rattle.bundle.specs.Answers.{toldLength};
 ghost use Rattle.bundle.specs.Calls.{writeLeaves, readLeaves};
-ghost use Rattle.sulmirejo.specs.Face.{status-number, returnedNumber, with-lists, listsReturnedNumber, with-facts, factsReturned, with-entry, entryReturned};
+ghost use Rattle.telling.specs.Telling.{status-number};
+ghost use Rattle.sulmirejo.specs.Face.{returnedNumber, with-lists, listsReturnedNumber, with-facts, factsReturned, with-entry, entryReturned};
 
 // 0 or the refusal's number; the length or the place goes to number.
 fn tell_length(answer: LengthAnswer, number: &mut usize) -> u32

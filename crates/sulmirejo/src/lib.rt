@@ -5,28 +5,13 @@ mod bundles;
 use field::Outcome;
 use field::Position;
 use numbers::PointAnswer;
+use telling::tell;
 ghost use mathlib.Core.Path.{_≡_};
 ghost use Rattle.numbers.specs.Points.{pointAnswer};
-ghost use Rattle.field.specs.Refusals.{toldOutcome};
 ghost use Rattle.transform.specs.Calls.{transformLeaves, inverseLeaves};
 ghost use Rattle.block.specs.Calls.{encodeLeaves, decodeLeaves};
-ghost use Rattle.sulmirejo.specs.Face.{status-number, returned, with-point, pointReturned, with-lists, listsReturned};
-
-// 0 or the refusal's number; the place goes to number.
-fn tell(outcome: Outcome, number: &mut usize) -> u32
-    ensures { λ r. ⌜ status-number r (now (number .exit)) ≡ returned (toldOutcome outcome) ⌝ }
-{
-    match outcome {
-        Outcome::Done => {
-            *number = 0;
-            0
-        }
-        Outcome::Refused(refusal) => {
-            *number = field::place(refusal);
-            field::number(refusal)
-        }
-    }
-}
+ghost use Rattle.telling.specs.Telling.{status-number};
+ghost use Rattle.sulmirejo.specs.Face.{with-point, pointReturned, with-lists, listsReturned};
 
 #[no_mangle]
 pub extern "C" fn sulmirejo_point(

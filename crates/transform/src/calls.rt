@@ -1,5 +1,6 @@
 // The entry points: they test their input, refuse by SHAPE, ROOM and VALUE, and work in the list that they are lent.
 use crate::checks::judge;
+use cells::inner::clear;
 use field::Outcome;
 use halving::inner;
 ghost use mathlib.Core.Path.{_≡_};
@@ -28,7 +29,7 @@ fn call(back: bool, list: &mut [u32], work: &mut [u32]) -> Outcome
     match judge(list, work.len()) {
         Outcome::Done => {
             one_of(back, list);
-            inner::clear(&mut work[0..size]);
+            clear(&mut work[0..size]);
             Outcome::Done
         }
         Outcome::Refused(refusal) => Outcome::Refused(refusal),

@@ -14,9 +14,9 @@ fn number(n: u64) {
 
 fn refusal(refused: Refusal) {
     text(b"REFUSED ");
-    number(field::number(refused) as u64);
+    number(telling::number(refused) as u64);
     text(b" ");
-    number(field::place(refused) as u64);
+    number(telling::place(refused) as u64);
 }
 
 fn symbol(answer: SymbolAnswer) {

@@ -1,8 +1,8 @@
 // The overflow counts, of which the table needs those of the whole file: of 2N cells the first N hold a block's code word, the next N the counts.
 // No entry points: the callers have made the checks, and the crate above reaches what it needs in `inner`.
 use crate::words::code_block;
+use cells::inner::clear;
 use field::inner::size;
-use halving::inner::clear;
 use layout::inner::blocks;
 ghost use mathlib.Core.Path.{_≡_};
 ghost use mathlib.Core.Bool.{false};

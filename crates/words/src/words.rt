@@ -1,5 +1,5 @@
 // The file as words, and the code word of a block of it. No entry points and for this crate alone: the callers have made the checks.
-use halving::inner::clear;
+use cells::inner::clear;
 use halving::inner::transform;
 ghost use mathlib.Core.Path.{_≡_};
 ghost use mathlib.Core.Bool.{false};

@@ -22,10 +22,11 @@ use Rattle.storage.proofs.BytesLaws.{Alike, alike-on, alike-past, two-alike, fo
 use Rattle.storage.proofs.Storing.{overflow-place}
 use Rattle.words.specs.File.{symbolAt, fileBundle}
 use Rattle.words.specs.Counts.{tallied}
-use Rattle.writer.specs.Writing.{Stand, Onward, Filled, Progress}
-use Rattle.writer.proofs.Bundling.{bodyAt, body-first, body-next, body-up, bundle-end, bundle-count, bundle-offset, bundle-body}
+use Rattle.front.specs.Onward.{Stand, Onward}
+use Rattle.writer.specs.Writing.{Filled, Progress}
+use Rattle.front.proofs.Bundling.{bodyAt, body-first, body-next, body-up, bundle-end, bundle-count, bundle-offset, bundle-body}
 use Rattle.words.proofs.Counting.{count-next, count-up}
-use Rattle.writer.proofs.Onward.{onward-none, onward-more, put-stands, put-onward, all-written}
+use Rattle.front.proofs.Onward.{onward-none, onward-more, put-stands, put-onward, all-written}
 
 -- What a body holds for block b
 

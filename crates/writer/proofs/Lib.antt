@@ -1,4 +1,1 @@
-pub mod Bundling
-pub mod Onward
 pub mod Filling
-pub mod Fronting

@@ -1,9 +1,9 @@
 // Writing a bundle: one pass over the blocks counts the overflows, of which the table needs the counts, and one writes the bodies. No entry
 // points and for this crate alone: the entry point has made the checks.
-use crate::front::write_front;
+use cells::inner::clear;
 use field::inner::size;
 use field::inner::wide;
-use halving::inner::clear;
+use front::inner::write_front;
 use layout::inner::blocks;
 use layout::inner::count_in;
 use layout::inner::offset_in;
@@ -26,7 +26,8 @@ ghost use Rattle.storage.specs.Storage.{stored, bodySize};
 ghost use Rattle.words.specs.File.{fileBundle};
 ghost use Rattle.layout.specs.Rooms.{writeRoom, workRoom};
 ghost use Rattle.words.specs.Counts.{Coded, Counted};
-ghost use Rattle.writer.specs.Writing.{Onward, Progress};
+ghost use Rattle.front.specs.Onward.{Onward};
+ghost use Rattle.writer.specs.Writing.{Progress};
 
 // The symbol of block b into the body of shadow i, which the table has placed.
 fn put_symbol(out: &mut [u8], i: usize, blocks: usize, b: usize, done: usize, symbol: u32)

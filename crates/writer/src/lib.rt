@@ -1,4 +1,3 @@
 // How the bundle of a file is written.
 mod bodies;
-mod front;
 pub mod inner;

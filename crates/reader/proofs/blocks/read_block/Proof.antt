@@ -9,8 +9,8 @@ use lib.ListN.{length}
 use Rattle.field.specs.Size.{sizeOf}
 use Rattle.field.specs.declared.refusal.Refusal.the-variants.{Disagree}
 use Rattle.code.specs.Ready.{Ready}
-use Rattle.recover.specs.Within.{heldWithin}
-use Rattle.recover.proofs.HeldWithin.{width}
+use Rattle.within.specs.Within.{heldWithin}
+use Rattle.within.proofs.HeldWithin.{width}
 use Rattle.layout.proofs.Passing.{header-inside}
 use Rattle.reader.proofs.BlockReading.{refused-none, solve-ready, none-decoded, message-decoded, message-good, block-message, block-none, laid-kept, bytes-more}
 use Rattle.reader.proofs.blocks.read_block.Statement.{statement}

@@ -11,12 +11,13 @@ use Rattle.storage.specs.Blocks.{longestFile}
 use Rattle.storage.specs.Storage.{countOf}
 use Rattle.layout.proofs.Holding.{limits}
 use Rattle.words.specs.File.{symbolAt, fileBundle}
-use Rattle.writer.specs.Writing.{Onward, Filled}
-use Rattle.writer.proofs.Bundling.{symbol-small}
+use Rattle.front.specs.Onward.{Onward}
+use Rattle.writer.specs.Writing.{Filled}
+use Rattle.front.proofs.Bundling.{symbol-small}
 use Rattle.words.proofs.Counting.{n-fits, count-here}
 use Rattle.writer.proofs.Filling.{still-room, turn-inside, turn-done, turn-onward, turn-filled, block-done}
-use Rattle.writer.proofs.Fronting.{entry-fits}
-use Rattle.writer.proofs.Onward.{onward-none}
+use Rattle.front.proofs.Fronting.{entry-fits}
+use Rattle.front.proofs.Onward.{onward-none}
 use Rattle.writer.proofs.bodies.store_block.Statement.{statement}
 use Rattle.writer.proofs.bodies.store_block.Tie as tie
 

@@ -9,7 +9,7 @@ use lib.Seq.{length-front}
 use Rattle.field.specs.Size.{sizeOf}
 use Rattle.field.proofs.Leaves.{lent-length}
 use Rattle.layout.specs.Rooms.{workRoom}
-use Rattle.writer.proofs.Bundling.{bundle-room}
+use Rattle.front.proofs.Bundling.{bundle-room}
 use Rattle.writer.proofs.bodies.write_all.Statement.{statement}
 use Rattle.writer.proofs.bodies.write_all.Tie as tie
 

@@ -11,10 +11,11 @@ use Rattle.storage.specs.Blocks.{longestFile}
 use Rattle.layout.proofs.Holding.{limits}
 use Rattle.words.specs.File.{fileBundle}
 use Rattle.words.specs.Counts.{Counted}
-use Rattle.writer.specs.Writing.{Onward, Progress}
+use Rattle.front.specs.Onward.{Onward}
+use Rattle.writer.specs.Writing.{Progress}
 use Rattle.words.proofs.Counting.{n-fits, counted-none}
 use Rattle.writer.proofs.Filling.{bundle-stands}
-use Rattle.writer.proofs.Onward.{onward-none, onward-more}
+use Rattle.front.proofs.Onward.{onward-none, onward-more}
 use Rattle.writer.proofs.bodies.write_bodies.Statement.{statement}
 use Rattle.writer.proofs.bodies.write_bodies.Tie as tie
 

@@ -3,7 +3,7 @@
 use native.Mathlib.Omega.{arith}
 use borrow.Author.Needs.{needs}
 use Rattle.writer.proofs.Filling.{filled-none}
-use Rattle.writer.proofs.Onward.{written-on}
+use Rattle.front.proofs.Onward.{written-on}
 use Rattle.writer.proofs.bodies.write_within.Statement.{statement}
 use Rattle.writer.proofs.bodies.write_within.Tie as tie
 

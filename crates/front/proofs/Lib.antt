@@ -1,0 +1,3 @@
+pub mod Bundling
+pub mod Onward
+pub mod Fronting

@@ -1,0 +1,25 @@
+-- `front::inner::write_header` meets its contract: the mark and five numbers, put one behind the other.
+-- Assumes nothing.
+use borrow.Author.Needs.{needs}
+use Rattle.layout.specs.Mark.{mark}
+use Rattle.layout.specs.Shadows.{headerSize}
+use Rattle.front.proofs.Fronting.{header-puts}
+use Rattle.front.proofs.inner.write_header.Statement.{statement}
+use Rattle.front.proofs.inner.write_header.Tie as tie
+
+pub write-header-spec : {M : Type 1} → statement M
+unfolding headerSize mark
+write-header-spec =
+    tie.close
+    (tie.spec
+    (λ c. search needs)
+    (λ c κs. search needs)
+    (λ c κs. search needs)
+    (λ c κs. search needs)
+    (λ c κs. search needs)
+    (λ c κs. search needs)
+    (λ c κs. search needs)
+    (λ c. search needs)
+    (λ c.
+    let start = c .before .before .before .before .before .before .before .before .before .before .before .before .before .before .before .before .before .before .before .before .before .before .before .before .before .before in
+    cc (header-puts (start .args .k) (start .args .n) (start .args .bytes) (start .args .out .now))))

@@ -4,7 +4,7 @@
 use mathlib.Core.Path.{_≡_, refl}
 use mathlib.Core.Bool.{true, false, not}
 use mathlib.Core.List.{List}
-use Prim.Native.Nat.{ℕ, _+_, _*_, _<_, _≤_}
+use Prim.Native.Nat.{ℕ, _+_, _<_, _≤_}
 use native.Mathlib.Numerals.{add-one}
 use native.Mathlib.Omega.{arith}
 use borrow.Author.Tests.{eq-eqb, ne-eqb, lt-leb, le-leb, eqb-true, not-false}
@@ -66,14 +66,16 @@ unfolding startOf
 start-next s t = rw add-one refl
 
 module _ (s : List ℕ) (t at B count : ℕ) (start : at ≡ startOf s t) (blocks : B ≡ blocksIn s) (listed : count ≡ countIn s t) where
-  pub start-step : at + (2 * count + 2 * B) ≡ startOf s (t + 1)
-  unfolding bodySize
-  start-step = omega (arith, start-next s t)
+  -- size is that of the body
+  module _ (size : ℕ) (is : size ≡ bodySize B count) where
+    pub start-step : at + size ≡ startOf s (t + 1)
+    unfolding bodySize
+    start-step = omega (arith, is, start-next s t)
 
-  pub end-inside : at ≤ length s → badEntry s t ≡ false → at + (2 * count + 2 * B) ≤ length s
-  unfolding bodySize
-  end-inside h e =
-      omega (arith, body-inside (blocksIn s) (countIn s t) (startOf s t) s (omega arith) (entry-told s t e .2))
+    pub end-inside : at ≤ length s → badEntry s t ≡ false → at + size ≤ length s
+    unfolding bodySize
+    end-inside h e =
+        omega (arith, is, body-inside (blocksIn s) (countIn s t) (startOf s t) s (omega arith) (entry-told s t e .2))
 
 pub rest-short : (s : List ℕ) → length s < firstBody (heldIn s) → restGood s ≡ false
 unfolding restGood

@@ -12,6 +12,7 @@ use field::Outcome;
 use field::Refusal;
 use field::inner::bad_shape;
 use storage::inner::body_good;
+use storage::inner::body_size;
 use storage::inner::two_at;
 ghost use mathlib.Core.Path.{_≡_};
 ghost use Prim.Native.Nat.{_+_, _*_, _<_, _≤_};
@@ -104,7 +105,7 @@ fn rest_good(bundle: &[u8], n: usize, held: usize, blocks: usize) -> bool
             return false;
         }
         low = position_in(bundle, t) + 1;
-        at += 2 * count_in(bundle, t) + 2 * blocks;
+        at += body_size(blocks, count_in(bundle, t));
         t += 1;
     }
     at == bundle.len()

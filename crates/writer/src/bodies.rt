@@ -1,5 +1,5 @@
 // Writing a bundle: one pass over the blocks counts the overflows, of which the table needs the counts, and one writes the bodies. No entry
-// points and for this crate alone: the entry point has made the checks.
+// points: the entry point has made the checks, and the crate above reaches what it needs in `inner`.
 use cells::inner::clear;
 use field::inner::size;
 use field::inner::wide;

@@ -12,6 +12,7 @@ use Rattle.storage.specs.Blocks.{mostBlocks}
 use Rattle.layout.specs.Fields.{positionIn}
 use Rattle.layout.specs.Layout.{startOf, badEntry}
 use Rattle.storage.specs.Rising.{least}
+use Rattle.storage.specs.Storage.{bodySize}
 use Rattle.layout.specs.Shadows.{headerSize, entrySize, firstBody}
 use Rattle.layout.proofs.Entries.{entry-inside, start-first, start-step, end-inside, rest-short, rest-bad, rest-is}
 use Rattle.storage.proofs.RisingLaws.{least-first, least-next}
@@ -27,7 +28,7 @@ abbrev μ-loop : tie.MeasureT-loop
 μ-loop bundle n held blocks at₀ low₀ t₀ at low t = held - t
 
 pub rest-good-spec : {M : Type 1} → statement M
-unfolding mostBlocks firstBody headerSize entrySize
+unfolding bodySize mostBlocks firstBody headerSize entrySize
 rest-good-spec =
     tie.close
     (tie.spec
@@ -65,21 +66,19 @@ rest-good-spec =
     (λ c κs.
     let start = c .before .before .before .before .before .before .before in
     entry-inside (start .args .held) (c .before .before .before .before .loop .t) (start .args .bundle .now) (c .before .before .before .loop-test .taken) (c .before .before .before .before .before .if1 .left))
-    (λ c. search needs)
-    (λ c. search needs)
-    (λ c. search needs)
+    (λ c κs. (search needs, c .count-in .ensures .1))
     (λ c. search needs)
     (λ c. search needs)
     (λ c. search needs)
     (λ c.
-    let l = c .before .before .before .before .before .loop in
-    let start = c .before .before .before .before .before .before .before .before in
+    let l = c .before .before .before .before .before .before .loop in
+    let start = c .before .before .before .before .before .before .before .before .before in
     let s = start .args .bundle .now in
-    let good = sym (c .before .before .before .bad-entry .ensures) ∙ c .before .before .if2 .left in (
+    let good = sym (c .before .before .before .before .bad-entry .ensures) ∙ c .before .before .before .if2 .left in (
       search needs,
-      least-next (positionIn s) (l .t) _ (c .before .position-in .ensures .0),
-      start-step s (l .t) (l .at) _ _ (l .inv .2) (start .pre .1 .0) (c .count-in .ensures .0),
-      end-inside s (l .t) (l .at) _ _ (l .inv .2) (start .pre .1 .0) (c .count-in .ensures .0) (l .inv .3) good,
+      least-next (positionIn s) (l .t) _ (c .before .before .position-in .ensures .0),
+      start-step s (l .t) (l .at) _ _ (l .inv .2) (start .pre .1 .0) (c .before .count-in .ensures .0) _ (c .body-size .ensures),
+      end-inside s (l .t) (l .at) _ _ (l .inv .2) (start .pre .1 .0) (c .before .count-in .ensures .0) _ (c .body-size .ensures) (l .inv .3) good,
       below-more _ _ (l .inv .4) good,
     ))
     (λ c.

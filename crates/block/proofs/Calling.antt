@@ -5,17 +5,11 @@ use mathlib.Core.List.{List, [], _++_}
 use mathlib.Core.Option.{Option, some, none}
 use Prim.Native.Nat.{ℕ, _-_, _≤_}
 use lib.ListN.{length, take, drop}
-use Rattle.field.specs.Leaves.{Leaves, left, written, zeroed}
+use Rattle.field.specs.Leaves.{Leaves, left, written}
 use Rattle.field.specs.Refusals.{Answer, result}
-use Rattle.field.proofs.Leaves.{lent-length, zeroed-part, zeroed-all}
+use Rattle.field.proofs.Leaves.{zeroed-again}
 use Rattle.code.specs.Decoded.{decoded}
 use Rattle.code.specs.Rooms.{decodeRoom}
-
--- the stated part, zeroed as a whole working space, and what lies behind it
-again-zeroed : (stated room : ℕ) (work : List ℕ) → stated ≡ room → room ≤ length work
-    → zeroed room (take (stated - 0) work) ++ drop (stated - 0) work ≡ zeroed room work
-again-zeroed stated room work is enough =
-    zeroed-part stated room work is enough _ (zeroed-all room (take (stated - 0) work) (lent-length stated room work is enough))
 
 -- the cells of the work, with those behind the stated part put back
 extended : List ℕ → Leaves → Leaves
@@ -26,7 +20,7 @@ pub decoded-whole : (n stated : ℕ) (found : Option (List ℕ)) (a : Answer) (o
     → left a o (e ++ drop (stated - 0) work) ≡ decoded found n out work
 unfolding extended
 decoded-whole n stated none a out work o e is enough leaves =
-    ap (extended (drop (stated - 0) work)) leaves ∙ ap (left _ out) (again-zeroed stated (decodeRoom n) work is enough)
+    ap (extended (drop (stated - 0) work)) leaves ∙ ap (left _ out) (zeroed-again stated (decodeRoom n) work is enough)
 decoded-whole n stated (some s) a out work o e is enough leaves =
     ap (extended (drop (stated - 0) work)) leaves
-    ∙ ap (left (result []) (written s out)) (again-zeroed stated (decodeRoom n) work is enough)
+    ∙ ap (left (result []) (written s out)) (zeroed-again stated (decodeRoom n) work is enough)

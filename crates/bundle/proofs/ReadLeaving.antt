@@ -12,7 +12,7 @@ use Rattle.field.specs.Refusals.{Answer, result, refusal, refused, toldOutcome}
 use Rattle.field.specs.declared.refusal.Outcome.{Outcome}
 use Rattle.field.specs.declared.refusal.Outcome.the-variants.{Done, Refused}
 use Rattle.field.specs.declared.refusal.Refusal.{Refusal}
-use Rattle.field.proofs.Leaves.{lent-length, zeroed-part, zeroed-all}
+use Rattle.field.proofs.Leaves.{zeroed-all, zeroed-again}
 use Rattle.layout.specs.Facts.{after}
 use Rattle.layout.specs.Fields.{nIn, lengthIn, blocksIn}
 use Rattle.bundle.specs.Calls.{blocksLeave}
@@ -56,11 +56,6 @@ again-written vs out L stated is enough fits =
     ∙ ap (vs ++_)
     (sym (drop-append-le (length vs) (take (stated - 0) out) (drop (stated - 0) out) (omega (arith, length-take-le (stated - 0) out (omega arith)))) ∙ ap (drop (length vs)) (take-append-drop (stated - 0) out))
 
-again-zeroed : (stated room : ℕ) (work : List ℕ) → stated ≡ room → room ≤ length work
-    → zeroed room (take (stated - 0) work) ++ drop (stated - 0) work ≡ zeroed room work
-again-zeroed stated room work is enough =
-    zeroed-part stated room work is enough _ (zeroed-all room (take (stated - 0) work) (lent-length stated room work is enough))
-
 -- with what lies behind the stated parts put back
 extended : List ℕ → List ℕ → Leaves → Leaves
 extended rest behind it = left (it .answer) (it .list ++ rest) (it .work ++ behind)
@@ -73,10 +68,10 @@ blocks-whole s (refusal number place) a L room out work f c first second enough 
     ap (extended (drop (L - 0) out) (drop (room - 0) work)) leaves
     ∙ ap₂ (left (refusal number place))
     (again-written (replicate (lengthIn s) 0) out (lengthIn s) L first enough (omega (arith, length-replicate {A = ℕ} (lengthIn s) 0)))
-    (again-zeroed room (workRoom (nIn s)) work second space)
+    (zeroed-again room (workRoom (nIn s)) work second space)
 blocks-whole s (result vs) a L room out work f c first second enough space leaves =
     ap (extended (drop (L - 0) out) (drop (room - 0) work)) leaves
     ∙ ap₂ (left (result vs))
     (again-written (take (lengthIn s) (bytesBefore s (blocksIn s))) out (lengthIn s) L first enough
     (omega (arith, length-take (lengthIn s) (bytesBefore s (blocksIn s)), min-le-left (lengthIn s) (length (bytesBefore s (blocksIn s))))))
-    (again-zeroed room (workRoom (nIn s)) work second space)
+    (zeroed-again room (workRoom (nIn s)) work second space)

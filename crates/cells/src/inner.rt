@@ -35,3 +35,14 @@ pub fn copy(from: &[u32], to: &mut [u32])
         i += 1;
     }
 }
+
+pub fn copy_bytes(from: &[u8], to: &mut [u8])
+    requires { ⌜ length (now from) ≤ length (now to) ⌝ }
+    ensures { λ _. ⌜ now (to .exit) ≡ written (now (from .entry)) (now (to .entry)) ⌝ }
+{
+    let mut i = 0;
+    while i < from.len() {
+        to[i] = from[i];
+        i += 1;
+    }
+}

@@ -54,3 +54,9 @@ module _ (stated room : ℕ) (cells : List ℕ) (is : stated ≡ room) (enough :
 pub zeroed-all : (room : ℕ) (cells : List ℕ) → length cells ≡ room → zeroed room cells ≡ replicate room 0
 zeroed-all room cells long =
     ap (replicate room 0 ++_) (drop-of-length-le cells {i = room} (omega arith)) ∙ append-nil (replicate room 0)
+
+-- the stated part, zeroed as a whole working space, and what lies behind it
+pub zeroed-again : (stated room : ℕ) (cells : List ℕ) → stated ≡ room → room ≤ length cells
+    → zeroed room (take (stated - 0) cells) ++ drop (stated - 0) cells ≡ zeroed room cells
+zeroed-again stated room cells is enough =
+    zeroed-part stated room cells is enough _ (zeroed-all room (take (stated - 0) cells) (lent-length stated room cells is enough))

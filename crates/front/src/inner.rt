@@ -1,4 +1,5 @@
 // What stands before the bodies: the header and the table. No entry points: the caller has made the checks.
+use cells::inner::copy_bytes;
 use field::inner::size;
 use field::inner::wide;
 use layout::inner::blocks;
@@ -18,23 +19,11 @@ ghost use Rattle.words.specs.File.{fileBundle};
 ghost use Rattle.words.specs.Counts.{Counted};
 ghost use Rattle.front.specs.Onward.{Stand, Onward};
 
-// At the front of to, which stays as it was behind it.
-fn copy(from: &[u8], to: &mut [u8])
-    requires { ⌜ length (now from) ≤ length (now to) ⌝ }
-    ensures { λ _. ⌜ now (to .exit) ≡ put (now (from .entry)) 0 (now (to .entry)) ⌝ }
-{
-    let mut i = 0;
-    while i < from.len() {
-        to[i] = from[i];
-        i += 1;
-    }
-}
-
 fn write_header(k: usize, n: usize, bytes: usize, out: &mut [u8])
     requires { ⌜ (k < 65536) × (n < 65536) × (bytes < 4294967296) × (headerSize ≤ length (now out)) ⌝ }
     ensures { λ _. ⌜ now (out .exit) ≡ put (header k n bytes n) 0 (now (out .entry)) ⌝ }
 {
-    copy(b"FNTB", out);
+    copy_bytes(b"FNTB", out);
     put_two(out, 4, k);
     put_two(out, 6, n);
     put_four(out, 8, bytes);

@@ -3,9 +3,11 @@
 use mathlib.Core.Path.{_≡_, sym, ap, ap₂, _∙_}
 use mathlib.Core.List.{List, [], _∷_, _++_, append-assoc}
 use Prim.Native.Nat.{ℕ, suc, _+_, _-_, _/_, _%_, _<_, _≤_}
+use native.Mathlib.Nat.{zero-add}
 use native.Mathlib.Omega.{arith}
 use lib.ListN.{length, take, drop, set, length-append, length-take, length-drop, take-append-drop}
 use lib.Seq.{take-at, drop-at, drop-drop, drop-append-add, length-take-le, sets-eq}
+use Rattle.field.specs.Leaves.{written}
 use Rattle.storage.specs.Bytes.{two, four, put}
 use Rattle.storage.proofs.BytesLaws.{Alike, alike-past, alike-front, alike-take, alike-drop, two-length}
 
@@ -15,6 +17,11 @@ unfolding put
 put-at bytes p old q at e same =
     ap₂ (λ (front back : List ℕ). front ++ (bytes ++ back)) (take-at p (old ++ q) at e)
     (ap (drop (at + length bytes)) (sym (append-assoc p old q)) ∙ drop-at (p ++ old) q (at + length bytes) (omega (arith, length-append p old)))
+
+-- at the front
+pub put-front : (bytes s : List ℕ) → written bytes s ≡ put bytes 0 s
+unfolding put
+put-front bytes s = ap (λ (m : ℕ). bytes ++ drop m s) (sym (zero-add (length bytes)))
 
 -- a list as what stands before, in and behind a place
 pub parted : (n at : ℕ) (s : List ℕ) → s ≡ take at s ++ (take n (drop at s) ++ drop (at + n) s)

@@ -1,16 +1,12 @@
 -- `cells::inner::copy` meets its contract: the numbers passed stand in front, the rest is as it was.
 -- Assumes nothing.
-use mathlib.Core.Path.{_≡_, sym, ap, ap₂, _∙_}
-use mathlib.Core.List.{List, _++_}
-use Prim.Native.Nat.{ℕ, _+_, _-_, _≤_}
+use mathlib.Core.Path.{_≡_, sym, _∙_}
+use Prim.Native.Nat.{_-_, _≤_}
 use native.Mathlib.Nat.{zero-add}
-use native.Mathlib.Omega.{arith}
 use borrow.Author.Needs.{needs}
-use lib.ListN.{length, getD, drop}
-use Rattle.field.specs.Leaves.{written}
-use Rattle.poly.specs.Tab.{tab}
-use Rattle.poly.proofs.Tab.{tab-getD}
+use lib.ListN.{length, getD}
 use Rattle.poly.proofs.Window.{window, window-none, window-store}
+use Rattle.cells.proofs.Filled.{copied-whole}
 use Rattle.cells.proofs.inner.copy.Statement.{statement}
 use Rattle.cells.proofs.inner.copy.Tie as tie
 
@@ -19,12 +15,6 @@ Inv-loop from to₀ i₀ to i = (i ≤ length from) × (length to ≡ length to�
 
 abbrev μ-loop : tie.MeasureT-loop
 μ-loop from to₀ i₀ to i = length from - i
-
-whole : (from to : List ℕ) (i : ℕ) → i ≤ length from → length from ≤ i → window 0 i (λ j. getD from j 0) to ≡ written from to
-unfolding window
-whole from to i le ge =
-    ap (λ (m : ℕ). tab m (λ j. getD from j 0) ++ drop (0 + m) to) {x = i} {y = length from} (omega arith)
-    ∙ ap₂ (λ (s : List ℕ) (m : ℕ). s ++ drop m to) (tab-getD from) (zero-add (length from))
 
 pub copy-spec : {M : Type 1} → statement M
 copy-spec =
@@ -49,4 +39,4 @@ copy-spec =
     (λ c.
     let l = c .before .loop in
     let start = c .before .before in
-    l .inv .2 ∙ whole (start .args .from .now) (start .args .to .now) (l .i) (l .inv .0) (c .loop-test .left)))
+    l .inv .2 ∙ copied-whole (start .args .from .now) (start .args .to .now) (l .i) (l .inv .0) (c .loop-test .left)))

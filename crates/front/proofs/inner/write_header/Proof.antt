@@ -3,6 +3,7 @@
 use borrow.Author.Needs.{needs}
 use Rattle.layout.specs.Mark.{mark}
 use Rattle.layout.specs.Shadows.{headerSize}
+use Rattle.storage.proofs.PutLaws.{put-front}
 use Rattle.front.proofs.Fronting.{header-puts}
 use Rattle.front.proofs.inner.write_header.Statement.{statement}
 use Rattle.front.proofs.inner.write_header.Tie as tie
@@ -22,4 +23,4 @@ write-header-spec =
     (λ c. search needs)
     (λ c.
     let start = c .before .before .before .before .before .before .before .before .before .before .before .before .before .before .before .before .before .before .before .before .before .before .before .before .before .before in
-    cc (header-puts (start .args .k) (start .args .n) (start .args .bytes) (start .args .out .now))))
+    cc (header-puts (start .args .k) (start .args .n) (start .args .bytes) (start .args .out .now), put-front mark (start .args .out .now))))

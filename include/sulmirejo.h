@@ -151,6 +151,19 @@ uint32_t sulmirejo_facts(const uint8_t *bundle, size_t bundle_len, size_t *k, si
 uint32_t sulmirejo_entry(const uint8_t *bundle, size_t bundle_len, size_t index, size_t *position, size_t *offset, size_t *count,
                          size_t *number);
 
+/* How much room a call asks for, so that memory can be found before the call: *out_len is the least output and *work_len the least working
+ * space, both counted in elements, with which the call of that name is not refused by ROOM; with less of either it is not taken.
+ * sulmirejo_transform_room is for sulmirejo_transform and sulmirejo_inverse, which work in the list itself and ask for working space alone.
+ *
+ * Refusals: those that the call gives for the same k, n, lengths or bundle, before it looks at anything else: SHAPE, and for a bundle FORM,
+ * SHAPE and FORM in the order of sulmirejo_read.
+ * Afterwards: on success *out_len and *work_len hold these numbers, and *number 0. On a refusal the two are as they were. */
+uint32_t sulmirejo_transform_room(size_t list_len, size_t *work_len, size_t *number);
+uint32_t sulmirejo_encode_room(size_t k, size_t n, size_t *out_len, size_t *work_len, size_t *number);
+uint32_t sulmirejo_decode_room(size_t k, size_t n, size_t *out_len, size_t *work_len, size_t *number);
+uint32_t sulmirejo_write_room(size_t k, size_t n, size_t file_len, size_t *out_len, size_t *work_len, size_t *number);
+uint32_t sulmirejo_read_room(const uint8_t *bundle, size_t bundle_len, size_t *out_len, size_t *work_len, size_t *number);
+
 #ifdef __cplusplus
 }
 #endif

@@ -1,0 +1,3 @@
+// The lines of the listing as text.
+pub mod inner;
+mod words;

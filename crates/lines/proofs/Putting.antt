@@ -21,8 +21,8 @@ puts-behind text s e at room h =
     let part = take (length s - at) rest in
     record {
       is = ap (take at s ++_) (ap (_++ drop (length s - at) rest) h ∙ append-assoc text (drop (length text) part) _
-      ∙ ap (text ++_) (sym (drop-append-le (length text) part _ (omega (arith, length-drop at s, length-take (length s - at) rest)))
-      ∙ ap (drop (length text)) (take-append-drop (length s - at) rest) ∙ drop-drop (length text) at s));
+          ∙ ap (text ++_) (sym (drop-append-le (length text) part _ (omega (arith, length-drop at s, length-take (length s - at) rest)))
+          ∙ ap (drop (length text)) (take-append-drop (length s - at) rest) ∙ drop-drop (length text) at s));
       ends = refl;
       short = le-refl (length text);
     }

@@ -9,7 +9,7 @@ use lib.ListN.{length, take, drop, length-append, length-take, length-drop, take
 use lib.Seq.{drop-drop, drop-append-le}
 use Rattle.field.specs.Leaves.{written}
 use Rattle.storage.specs.Bytes.{put}
-use Rattle.storage.proofs.PutLaws.{put-more}
+use Rattle.storage.proofs.PutLaws.{put-front, put-more}
 use Rattle.lines.specs.Puts.{Puts}
 
 -- text at the front of what lies behind an index: e is what that part holds afterwards
@@ -43,3 +43,7 @@ puts-more {p = p} {q = q} {s = s} {m = m} {l = l} {at = at} {e = e} {f = f} h fi
       ends = omega (arith, first .ends, then .ends, length-append p q);
       short = omega (arith, first .short, then .short, length-append p q);
     }
+
+-- at the front
+pub puts-written : {text s t : List ℕ} {most e : ℕ} → Puts text most 0 s e t → (t ≡ written text s) × (e ≡ length text)
+puts-written {text = text} {s = s} it = (it .is ∙ sym (put-front text s), omega (arith, it .ends))

@@ -1,0 +1,3 @@
+// What the listing program prints, as text in lent memory.
+pub mod inner;
+mod table;

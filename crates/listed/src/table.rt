@@ -1,0 +1,55 @@
+// The header and the table of a bundle as text. No entry points and for this crate alone: the reader has tested the layout.
+use layout::inner::blocks_in;
+use layout::inner::count_in;
+use layout::inner::held_in;
+use layout::inner::k_in;
+use layout::inner::length_in;
+use layout::inner::n_in;
+use layout::inner::offset_in;
+use layout::inner::position_in;
+use lines::inner::put_entry;
+use lines::inner::put_header;
+ghost use mathlib.Core.Path.{_≡_};
+ghost use mathlib.Core.List.{[]};
+ghost use Prim.Native.Nat.{_+_, _*_, _≤_};
+ghost use lib.ListN.{length};
+ghost use Rattle.field.specs.Refusals.{result};
+ghost use Rattle.layout.specs.Fields.{heldIn};
+ghost use Rattle.layout.specs.Layout.{layoutChecks};
+ghost use Rattle.lines.specs.Puts.{Puts};
+ghost use Rattle.listed.specs.Listing.{entryLines, listing};
+
+// A line takes at most 63 bytes: three numbers of 20 digits, two blanks and the line feed.
+fn put_entries(bundle: &[u8], held: usize, out: &mut [u8], at: usize) -> usize
+    requires { ⌜ (layoutChecks (now bundle) ≡ result []) × (held ≡ heldIn (now bundle)) × (at + 63 * held ≤ length (now out)) ⌝ }
+    ensures { λ r. ⌜ Puts (entryLines (now (bundle .entry)) held) (63 * held) at (now (out .entry)) r (now (out .exit)) ⌝ }
+{
+    let mut end = at;
+    let mut t = 0;
+    while t < held {
+        let position = position_in(bundle, t);
+        let offset = offset_in(bundle, t);
+        let count = count_in(bundle, t);
+        end = put_entry(position, offset, count, out, end);
+        t += 1;
+    }
+    end
+}
+
+// From the front on.
+pub fn put_listing(bundle: &[u8], out: &mut [u8]) -> usize
+    requires { ⌜ (layoutChecks (now bundle) ≡ result []) × (128 + 63 * heldIn (now bundle) ≤ length (now out)) ⌝ }
+    ensures { λ r. ⌜ Puts (listing (now (bundle .entry))) (128 + 63 * heldIn (now (bundle .entry))) 0 (now (out .entry)) r (now (out .exit)) ⌝ }
+{
+    let held = held_in(bundle);
+    let end = put_header(
+        k_in(bundle),
+        n_in(bundle),
+        length_in(bundle),
+        held,
+        blocks_in(bundle),
+        out,
+        0,
+    );
+    put_entries(bundle, held, out, end)
+}

@@ -70,18 +70,18 @@ after-refusal (result vs) later number place = refl
 
 -- first is what the checks of the sizes say, vs the room stated
 
-told-refused : (first : Answer) (vs : List ℕ) {number place : ℕ} → after first (result vs) ≡ refusal number place → (later : Answer)
+sizes-refused : (first : Answer) (vs : List ℕ) {number place : ℕ} → after first (result vs) ≡ refusal number place → (later : Answer)
     → after first later ≡ refusal number place
-told-refused (refusal m i) vs e later = e
-told-refused (result us) vs e later = absurd (result-no-refusal e)
+sizes-refused (refusal m i) vs e later = e
+sizes-refused (result us) vs e later = absurd (result-no-refusal e)
 
-told-passed : (first : Answer) (vs : List ℕ) {us : List ℕ} → after first (result vs) ≡ result us → (later : Answer) → after first later ≡ later
-told-passed (refusal m i) vs e later = absurd (result-no-refusal (sym e))
-told-passed (result ws) vs e later = refl
+sizes-passed : (first : Answer) (vs : List ℕ) {us : List ℕ} → after first (result vs) ≡ result us → (later : Answer) → after first later ≡ later
+sizes-passed (refusal m i) vs e later = absurd (result-no-refusal (sym e))
+sizes-passed (result ws) vs e later = refl
 
-told-room : (first : Answer) (o w : ℕ) {p v : ℕ} → after first (result (o ∷ w ∷ [])) ≡ result (p ∷ v ∷ []) → (o ≡ p) × (w ≡ v)
-told-room (refusal m i) o w e = absurd (result-no-refusal (sym e))
-told-room (result ws) o w e = (cc, cc)
+room-same : (first : Answer) (o w : ℕ) {p v : ℕ} → after first (result (o ∷ w ∷ [])) ≡ result (p ∷ v ∷ []) → (o ≡ p) × (w ≡ v)
+room-same (refusal m i) o w e = absurd (result-no-refusal (sym e))
+room-same (result ws) o w e = (cc, cc)
 
 -- The comparison with the room
 
@@ -116,23 +116,23 @@ module _ (first lengths others : Answer) (o w : ℕ) (told short : Answer) (chec
       → call out work .answer ≡ after (after lengths (refuseIf b Room others)) (later out work)
   passed out work b e compared =
       answered out work b compared
-      ∙ ap (λ (a : Answer). after a (later out work)) (told-passed first (o ∷ w ∷ []) (sym is-told ∙ e) (after lengths (refuseIf b Room others)))
+      ∙ ap (λ (a : Answer). after a (later out work)) (sizes-passed first (o ∷ w ∷ []) (sym is-told ∙ e) (after lengths (refuseIf b Room others)))
 
   asks-for : AsksFor told short call
   asks-for =
       record {
         room-enough = λ p v e out work enough room is.
-            let same = told-room first o w (sym is-told ∙ e) in
+            let same = room-same first o w (sym is-told ∙ e) in
             other-after (after lengths others) (other-after lengths no-length no-other) (no-later out work)
             (sym (passed out work false e (ample (length out) o (length work) w (rw (same .0) enough) (rw (same .1) room))) ∙ is);
         room-needed = λ p v e out work less.
-            let same = told-room first o w (sym is-told ∙ e) in
+            let same = room-same first o w (sym is-told ∙ e) in
             passed out work true e (scarce (length out) o (length work) w (rw (same .0, same .1) less))
             ∙ after-refusal lengths (later out work) 3 0 ∙ sym is-short;
         room-refused = λ number place e out work.
             answered out work (ltb (length out) o || ltb (length work) w) refl
             ∙ ap (λ (a : Answer). after a (later out work))
-            (told-refused first (o ∷ w ∷ []) (sym is-told ∙ e) (after lengths (refuseIf (ltb (length out) o || ltb (length work) w) Room others)));
+            (sizes-refused first (o ∷ w ∷ []) (sym is-told ∙ e) (after lengths (refuseIf (ltb (length out) o || ltb (length work) w) Room others)));
       }
 
 -- The transform and its inverse

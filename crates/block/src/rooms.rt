@@ -1,4 +1,4 @@
-// Room needed, worked out in one place for the checks and for the work.
+// Room needed, worked out in one place for the checks and for the work. No entry points: the crate above reaches them through `inner`.
 use field::inner::size;
 ghost use mathlib.Core.Path.{_≡_};
 ghost use Rattle.code.specs.Rooms.{encodeRoom, decodeRoom};

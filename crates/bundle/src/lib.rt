@@ -2,6 +2,7 @@
 mod answer;
 mod calls;
 mod checks;
+pub mod inner;
 mod rooms;
 mod whole;
 

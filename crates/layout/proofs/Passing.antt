@@ -1,8 +1,8 @@
 -- What the tests of a bundle's layout let through: bytes that they pass have a header of good shape, a table that lies inside, good entries in
 -- order, and bodies one behind the other up to the end.
 -- Assumes nothing.
-use mathlib.Core.Path.{_≡_}
-use mathlib.Core.Bool.{true, false, not}
+use mathlib.Core.Path.{_≡_, sym, _∙_}
+use mathlib.Core.Bool.{Bool, true, false, not}
 use mathlib.Core.List.{List, []}
 use Prim.Native.Nat.{ℕ, zero, suc, _+_, _<_, _≤_}
 use native.Mathlib.Nat.{le-trans}
@@ -62,6 +62,19 @@ bundle-shape-told k n L e =
     let shape = or-false (badShape k n) _ e in
     let limits = or-false (ltb longestFile L) (ltb mostBlocks (blocksOf k L)) (shape .1) in
     (shape .0, ltb-false longestFile L (limits .0), ltb-false mostBlocks (blocksOf k L) (limits .1))
+
+-- the same as the code asks for it; bad is what the test of the shape gave
+module _ (k n L : ℕ) (bad : Bool) (judged : bad ≡ badBundleShape k n L) (good : bad ≡ false) where
+  pub countable : (0 < k) × (k ≤ longest) × (L ≤ longestFile)
+  countable =
+      let told = bundle-shape-told k n L (sym judged ∙ good) in
+      let shape = shape-good k n (told .0) in (shape .0, omega arith, told .1)
+
+  -- B as the code has it
+  pub measurable : (B : ℕ) → B ≡ blocksOf k L → (n ≤ longest) × (B ≤ mostBlocks)
+  measurable B is =
+      let told = bundle-shape-told k n L (sym judged ∙ good) in
+      (shape-good k n (told .0) .2, omega (arith, told .2))
 
 rest-told : (s : List ℕ) → restGood s ≡ true
     → (firstBody (heldIn s) ≤ length s) × ((t : ℕ) → t < heldIn s → badEntry s t ≡ false) × (startOf s (heldIn s) ≡ length s)

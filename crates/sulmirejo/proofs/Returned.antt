@@ -1,12 +1,15 @@
 -- Status and number are the answer's, so the face tells what the functions behind it answer.
 -- Assumes nothing.
-use mathlib.Core.Path.{_≡_, ap, _∙_}
+use mathlib.Core.Path.{_≡_, refl, sym, ap, _∙_}
+use mathlib.Core.Bool.{Bool, true, false}
 use mathlib.Core.List.{List, [], _∷_}
 use Prim.Native.Nat.{ℕ}
 use Rattle.field.specs.Leaves.{Leaves, left}
-use Rattle.field.specs.Refusals.{Answer, result, refused, toldOutcome}
+use Rattle.field.specs.Refusals.{Answer, result, refused, refuseIf, toldOutcome}
 use Rattle.field.specs.declared.refusal.Outcome.{Outcome}
 use Rattle.field.specs.declared.refusal.Refusal.{Refusal}
+use Rattle.field.specs.declared.refusal.Refusal.the-variants.{Shape}
+use Rattle.transform.specs.Lengths.{badLength}
 use Rattle.layout.specs.Facts.{toldFacts, toldEntry}
 use Rattle.layout.specs.declared.facts.Entry.{Entry}
 use Rattle.layout.specs.declared.facts.EntryAnswer.the-variants as E
@@ -14,8 +17,12 @@ use Rattle.layout.specs.declared.facts.Facts.{Facts}
 use Rattle.layout.specs.declared.facts.FactsAnswer.the-variants as F
 use Rattle.bundle.specs.Answers.{toldLength}
 use Rattle.bundle.specs.declared.answer.LengthAnswer.{LengthAnswer}
+use Rattle.rooms.specs.Rooms.{toldRoom, transformRoomAnswer}
+use Rattle.rooms.specs.declared.answer.Room.{Room}
+use Rattle.rooms.specs.declared.answer.RoomAnswer.{RoomAnswer}
+use Rattle.rooms.specs.declared.answer.RoomAnswer.the-variants as R
 use Rattle.telling.specs.Telling.{Returned, status-number, returned}
-use Rattle.sulmirejo.specs.Face.{returnedNumber, with-point, pointReturned, with-lists, listsReturned, listsReturnedNumber, with-facts, factsReturned, with-entry, entryReturned}
+use Rattle.sulmirejo.specs.Face.{returnedNumber, with-point, pointReturned, with-lists, listsReturned, listsReturnedNumber, with-facts, factsReturned, with-entry, entryReturned, RoomReturned, with-room, roomReturned}
 
 pub point-found : (a : Answer) (before v s p : ℕ) → result (v ∷ []) ≡ a → status-number s p ≡ returned (result [])
     → with-point (status-number s p) v ≡ pointReturned a before
@@ -58,3 +65,31 @@ module _ (a : Answer) (t o c s p : ℕ) where
   pub entry-refused : (x : Refusal) → refused x ≡ a → status-number s p ≡ returned (refused x)
       → with-entry (status-number s p) t o c ≡ entryReturned a t o c
   entry-refused x is told = ap (λ (r : Returned). with-entry r t o c) told ∙ ap (λ (a : Answer). entryReturned a t o c) is
+
+-- o and w are what the numbers held before
+module _ (a : RoomAnswer) (o w s p : ℕ) where
+  pub room-found : (r : Room) → a ≡ R.Room r → status-number s p ≡ returned (result [])
+      → with-room (status-number s p) (r .out) (r .work) ≡ roomReturned (toldRoom a) o w
+  room-found r is told =
+      ap (λ (x : Returned). with-room x (r .out) (r .work)) told ∙ ap (λ (a : RoomAnswer). roomReturned (toldRoom a) o w) (sym is)
+
+  pub room-refused : (x : Refusal) → a ≡ R.Refused x → status-number s p ≡ returned (refused x)
+      → with-room (status-number s p) o w ≡ roomReturned (toldRoom a) o w
+  room-refused x is told =
+      ap (λ (r : Returned). with-room r o w) told ∙ ap (λ (a : RoomAnswer). roomReturned (toldRoom a) o w) (sym is)
+
+-- what the face tells of a room is what the call behind it answers
+pub room-told : (a : Answer) (r : RoomAnswer) (o w : ℕ) {it : RoomReturned} → toldRoom r ≡ a → it ≡ roomReturned (toldRoom r) o w
+    → it ≡ roomReturned a o w
+room-told a r o w is told = told ∙ ap (λ (a : Answer). roomReturned a o w) is
+
+-- the transform's room has no output: 0 stays 0
+no-output : (bad : Bool) (N w : ℕ) → roomReturned (refuseIf bad Shape (result (0 ∷ N ∷ []))) 0 w .out ≡ 0
+no-output true N w = refl
+no-output false N w = refl
+
+pub room-told-alone : (N o v w s p : ℕ) → with-room (status-number s p) o v ≡ roomReturned (transformRoomAnswer N) 0 w
+    → with-room (status-number s p) 0 v ≡ roomReturned (transformRoomAnswer N) 0 w
+unfolding transformRoomAnswer
+room-told-alone N o v w s p told =
+    ap (λ (x : ℕ). with-room (status-number s p) x v) (sym (ap (λ (r : RoomReturned). r .out) told ∙ no-output (badLength N) N w)) ∙ told

@@ -78,3 +78,18 @@ with-entry r position offset count =
 abbrev pub entryReturned : Answer → ℕ → ℕ → ℕ → EntryReturned
 entryReturned (result vs) position offset count = with-entry (returned (result vs)) (getD vs 0 0) (getD vs 1 0) (getD vs 2 0)
 entryReturned (refusal m i) position offset count = with-entry (returned (refusal m i)) position offset count
+
+-- the room that a call asks for: it is written on success alone
+pub record RoomReturned : Type 0 where
+  pub status : ℕ
+  pub number : ℕ
+  pub out : ℕ
+  pub work : ℕ
+
+abbrev pub with-room : Returned → ℕ → ℕ → RoomReturned
+with-room r out work = record { status = r .status; number = r .number; out = out; work = work }
+
+-- the answer told, and what stands in the two where they held out and work
+abbrev pub roomReturned : Answer → ℕ → ℕ → RoomReturned
+roomReturned (result vs) out work = with-room (returned (result vs)) (getD vs 0 0) (getD vs 1 0)
+roomReturned (refusal m i) out work = with-room (returned (refusal m i)) out work

@@ -3,12 +3,14 @@ use mathlib.Core.Path.{_≡_}
 use mathlib.Core.List.{List}
 use Prim.Native.Nat.{ℕ}
 use Rattle.field.specs.Leaves.{Leaves}
+use Rattle.field.specs.Refusals.{Answer}
 use Rattle.numbers.specs.Points.{pointAnswer}
 use Rattle.transform.specs.Calls.{transformLeaves, inverseLeaves}
 use Rattle.block.specs.Calls.{encodeLeaves, decodeLeaves}
 use Rattle.layout.specs.Facts.{factsAnswer, entryAnswer}
 use Rattle.bundle.specs.Calls.{writeLeaves, readLeaves}
-use Rattle.sulmirejo.specs.Face.{PointReturned, pointReturned, ListsReturned, listsReturned, listsReturnedNumber, FactsReturned, factsReturned, EntryReturned, entryReturned}
+use Rattle.rooms.specs.Rooms.{transformRoomAnswer, encodeRoomAnswer, decodeRoomAnswer, writeRoomAnswer, readRoomAnswer}
+use Rattle.sulmirejo.specs.Face.{PointReturned, pointReturned, ListsReturned, listsReturned, listsReturnedNumber, FactsReturned, factsReturned, EntryReturned, entryReturned, RoomReturned, roomReturned}
 
 -- Two outcomes of a call are equal: the status, the number, the point, every number written, every cell of the lent lists
 
@@ -54,3 +56,22 @@ EntrySettled =
     (bundle : List ℕ) (index position offset count : ℕ) (r s : EntryReturned)
     → r ≡ entryReturned (entryAnswer bundle index) position offset count
     → s ≡ entryReturned (entryAnswer bundle index) position offset count → r ≡ s
+
+-- two outcomes of a call that tells a room
+abbrev pub RoomSettled : Answer → Type 0
+RoomSettled a = (out work : ℕ) (r s : RoomReturned) → r ≡ roomReturned a out work → s ≡ roomReturned a out work → r ≡ s
+
+abbrev pub TransformRoomSettled : Type 0
+TransformRoomSettled = (N : ℕ) → RoomSettled (transformRoomAnswer N)
+
+abbrev pub EncodeRoomSettled : Type 0
+EncodeRoomSettled = (k n : ℕ) → RoomSettled (encodeRoomAnswer k n)
+
+abbrev pub DecodeRoomSettled : Type 0
+DecodeRoomSettled = (k n : ℕ) → RoomSettled (decodeRoomAnswer k n)
+
+abbrev pub WriteRoomSettled : Type 0
+WriteRoomSettled = (k n L : ℕ) → RoomSettled (writeRoomAnswer k n L)
+
+abbrev pub ReadRoomSettled : Type 0
+ReadRoomSettled = (bundle : List ℕ) → RoomSettled (readRoomAnswer bundle)

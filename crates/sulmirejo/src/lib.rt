@@ -1,6 +1,7 @@
 // The face: the functions that C calls. Each hands its arguments to a proved function and turns the answer into number and place; nothing else
 // is done here.
 mod bundles;
+mod room;
 
 use field::Outcome;
 use field::Position;

@@ -10,7 +10,7 @@ ghost use Rattle.transform.specs.Calls.{judged};
 ghost use Rattle.transform.specs.Lengths.{badLength};
 
 // Whether SHAPE refuses a list of that length.
-fn bad_length(length: usize) -> bool
+pub fn bad_length(length: usize) -> bool
     ensures { λ r. ⌜ r ≡ badLength length ⌝ }
 {
     if length == 0 {

@@ -3,17 +3,14 @@
 use mathlib.Core.Path.{_≡_, sym, _∙_}
 use mathlib.Core.Bool.{Bool, true, false, _||_}
 use mathlib.Core.List.{[]}
-use Prim.Native.Nat.{ℕ, _<_, _≤_}
-use native.Mathlib.Omega.{arith}
+use Prim.Native.Nat.{ℕ}
 use borrow.Author.Needs.{needs}
 use lib.Dec.{ltb}
 use Rattle.field.specs.Refusals.{result, refused}
-use Rattle.field.specs.Shape.{longest}
 use Rattle.field.specs.declared.refusal.Refusal.the-variants.{Shape, Room}
 use Rattle.field.proofs.Checks.{stops, goes-on}
-use Rattle.field.proofs.Shape.{shape-good}
-use Rattle.storage.specs.Blocks.{blocksOf, longestFile, mostBlocks, badBundleShape}
-use Rattle.layout.proofs.Passing.{bundle-shape-told}
+use Rattle.storage.specs.Blocks.{blocksOf, badBundleShape}
+use Rattle.layout.proofs.Passing.{countable, measurable}
 use Rattle.bundle.specs.Checks.{writeChecks}
 use Rattle.layout.specs.Rooms.{writeRoom, workRoom}
 use Rattle.bundle.proofs.checks.write_checks.Statement.{statement}
@@ -21,18 +18,8 @@ use Rattle.bundle.proofs.checks.write_checks.Tie as tie
 
 -- bad is what the test of the shape gave
 module _ (k n L : ℕ) (bad : Bool) (judged : bad ≡ badBundleShape k n L) (good : bad ≡ false) where
-  countable : (0 < k) × (k ≤ longest) × (L ≤ longestFile)
-  countable =
-      let told = bundle-shape-told k n L (sym judged ∙ good) in
-      let shape = shape-good k n (told .0) in (shape .0, omega arith, told .1)
-
   -- B as the code has it
   module _ (B : ℕ) (is : B ≡ blocksOf k L) where
-    measurable : (n ≤ longest) × (B ≤ mostBlocks)
-    measurable =
-        let told = bundle-shape-told k n L (sym judged ∙ good) in
-        (shape-good k n (told .0) .2, omega (arith, told .2))
-
     -- needed, room and short are what the calls gave that work the rooms out and compare them
     module _ (out work needed room : ℕ) (short : Bool) (first : needed ≡ writeRoom n B) (second : room ≡ workRoom n) (compared : short ≡ ltb out needed || ltb work room) where
       measured : (ltb out (writeRoom n (blocksOf k L)) || ltb work (workRoom n)) ≡ short

@@ -3,20 +3,18 @@
 use mathlib.Core.Path.{_≡_, sym, _∙_}
 use mathlib.Core.Bool.{Bool, true, false}
 use mathlib.Core.List.{List, []}
-use Prim.Native.Nat.{ℕ, _<_, _≤_}
+use Prim.Native.Nat.{ℕ, _≤_}
 use native.Mathlib.Omega.{arith}
 use borrow.Author.Needs.{needs}
 use lib.ListN.{length}
 use Rattle.field.specs.Refusals.{result, refused}
-use Rattle.field.specs.Shape.{longest}
 use Rattle.field.specs.declared.refusal.Refusal.the-variants.{Shape, Form}
 use Rattle.field.proofs.Checks.{stops}
-use Rattle.field.proofs.Shape.{shape-good}
-use Rattle.storage.specs.Blocks.{blocksOf, longestFile, mostBlocks, badBundleShape}
+use Rattle.storage.specs.Blocks.{blocksOf, badBundleShape}
 use Rattle.layout.specs.Fields.{kIn, nIn, lengthIn, heldIn, blocksIn}
 use Rattle.layout.specs.Layout.{badFront, restGood, layoutChecks}
 use Rattle.layout.specs.Shadows.{headerSize}
-use Rattle.layout.proofs.Passing.{front-told, bundle-shape-told, tests-pass}
+use Rattle.layout.proofs.Passing.{front-told, countable, measurable, tests-pass}
 use Rattle.layout.proofs.checks.layout_checks.Statement.{statement}
 use Rattle.layout.proofs.checks.layout_checks.Tie as tie
 
@@ -46,13 +44,6 @@ blocks-read : (s : List ℕ) (k L B : ℕ) → k ≡ kIn s → L ≡ lengthIn s 
 unfolding blocksIn
 blocks-read s k L B first third is = cc
 
--- what the test of the shape leaves
-limits : (k n L : ℕ) (b : Bool) → b ≡ badBundleShape k n L → b ≡ false
-    → ((0 < k) × (k ≤ longest) × (L ≤ longestFile)) × (blocksOf k L ≤ mostBlocks)
-limits k n L b is e =
-    let told = bundle-shape-told k n L (sym is ∙ e) in
-    let good = shape-good k n (told .0) in ((good .0, omega arith, told .1), told .2)
-
 pub layout-checks-spec : {M : Type 1} → statement M
 unfolding layoutChecks headerSize kIn nIn lengthIn heldIn blocksIn
 layout-checks-spec =
@@ -71,14 +62,14 @@ layout-checks-spec =
     (λ c κs.
     let passed = c .before .before .before .before .before in
     omega (arith, long _ _ (passed .before .bad-front .ensures) (passed .if1 .left)))
-    (λ c κs. limits _ _ _ _ (c .before .before .bad-bundle-shape .ensures) (c .before .if2 .left) .0)
+    (λ c κs. countable _ _ _ _ (c .before .before .bad-bundle-shape .ensures) (c .before .if2 .left))
     (λ c κs.
     let read = c .before .before .before .before in
     let passed = read .before .before .before in (
       (long _ _ (passed .before .bad-front .ensures) (passed .if1 .left), read .before .n-in .ensures .0, c .before .held-in .ensures .0, c .before .held-in .ensures .1),
       (
         blocks-read _ _ _ _ (read .before .before .k-in .ensures .0) (read .length-in .ensures .0) (c .blocks2 .ensures),
-        omega (arith, c .blocks2 .ensures, limits _ _ _ _ (c .before .before .before .bad-bundle-shape .ensures) (c .before .before .if2 .left) .1),
+        measurable _ _ _ _ (c .before .before .before .bad-bundle-shape .ensures) (c .before .before .if2 .left) _ (c .blocks2 .ensures) .1,
       ),
     ))
     (λ c.

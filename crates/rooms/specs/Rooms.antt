@@ -1,0 +1,41 @@
+-- What is told of a call's room: "Room needed, working space counted in numbers", the output's first, or the refusal that the call gives for the
+-- same sizes or the same bundle, whatever it is lent.
+use mathlib.Core.List.{List, [], _∷_}
+use Prim.Native.Nat.{ℕ}
+use Rattle.field.specs.Refusals.{Answer, result, refused, refuseIf}
+use Rattle.field.specs.Shape.{badShape}
+use Rattle.field.specs.declared.refusal.Refusal.the-variants.{Shape}
+use Rattle.transform.specs.Lengths.{badLength}
+use Rattle.code.specs.Rooms.{encodeRoom, decodeRoom}
+use Rattle.storage.specs.Blocks.{blocksOf, badBundleShape}
+use Rattle.layout.specs.Facts.{after}
+use Rattle.layout.specs.Fields.{nIn, lengthIn}
+use Rattle.layout.specs.Layout.{layoutChecks}
+use Rattle.layout.specs.Rooms.{writeRoom, workRoom}
+use Rattle.rooms.specs.declared.answer.RoomAnswer.{RoomAnswer}
+use Rattle.rooms.specs.declared.answer.RoomAnswer.the-variants as R
+
+-- "transform, working space N, where N is the length of the one list that it reads and writes": no output beside it
+unfoldable pub transformRoomAnswer : ℕ → Answer
+transformRoomAnswer N = refuseIf (badLength N) Shape (result (0 ∷ N ∷ []))
+
+-- "encode, output n, working space 2N"
+unfoldable pub encodeRoomAnswer : ℕ → ℕ → Answer
+encodeRoomAnswer k n = refuseIf (badShape k n) Shape (result (n ∷ encodeRoom n ∷ []))
+
+-- "decode, output k, working space 4N"
+unfoldable pub decodeRoomAnswer : ℕ → ℕ → Answer
+decodeRoomAnswer k n = refuseIf (badShape k n) Shape (result (k ∷ decodeRoom n ∷ []))
+
+-- "bundle writer, 16 + 8n + 4nB bytes, however few the bundle takes, working space 8N"; L is the file's length
+unfoldable pub writeRoomAnswer : ℕ → ℕ → ℕ → Answer
+writeRoomAnswer k n L = refuseIf (badBundleShape k n L) Shape (result (writeRoom n (blocksOf k L) ∷ workRoom n ∷ []))
+
+-- "bundle reader, L bytes, working space 8N"
+unfoldable pub readRoomAnswer : List ℕ → Answer
+readRoomAnswer s = after (layoutChecks s) (result (lengthIn s ∷ workRoom (nIn s) ∷ []))
+
+-- the answer of the code, on paper: how long the output, then how long the working space has to be
+abbrev pub toldRoom : RoomAnswer → Answer
+toldRoom (R.Room r) = result (r .out ∷ r .work ∷ [])
+toldRoom (R.Refused x) = refused x

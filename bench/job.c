@@ -1,5 +1,5 @@
-/* The counted and timed calls, what they are lent and what is due: see job.h. What is due comes from the second coder of the C tests, or is what
- * was encoded; nothing of it is worked out during the call. */
+/* The counted and timed calls, what they are lent and what is due: see job.h. What is due comes from the second coder of the C tests, or is
+ * what was encoded; nothing of it is worked out during the call. */
 #include "job.h"
 
 #include "lent.h"

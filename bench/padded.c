@@ -1,5 +1,5 @@
-/* padded STACK PADDING COMMAND ARG..: becomes the command, with a stack of STACK bytes of which a string in the environment takes PADDING. It is
- * for bench/stack: a shell would have to run on that little stack itself. */
+/* padded STACK PADDING COMMAND ARG..: becomes the command, with a stack of STACK bytes of which a string in the environment takes PADDING. It
+ * is for bench/stack: a shell would have to run on that little stack itself. */
 #define _DEFAULT_SOURCE
 #include <stdio.h>
 #include <stdlib.h>

@@ -1,6 +1,7 @@
 /* Another coder to stand beside: jerasure's matrix code over 16 bits on a file cut into k parts, with n - k parts added, encoded and then
  * decoded with as many data parts lost as there are parts added. The matrix is Cauchy's: encoding costs the same with Vandermonde's, which
- * takes cubic time to make. Prints the milliseconds of making the matrix, of encoding and of decoding, if that takes no more than LIMIT seconds. */
+ * takes cubic time to make. Prints the milliseconds of making the matrix, of encoding and of decoding, the last one only if it takes no more
+ * than LIMIT seconds. */
 #include "clock.h"
 
 #include <jerasure.h>

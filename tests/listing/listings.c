@@ -67,10 +67,13 @@ static const struct written cases[] = {
      P11_SHAPE "00 00 00 08 00 03 00 00  00 00 00 00 00 00 00 28  00 01 00 00 00 00 00 2C  00 02 00 00 00 00 00 30 "
                "00 00 00 03  FF 00 FE 02  FF FF 00 00", 0,
      "k 2 n 4 length 8 held 3 blocks 2\n0 40 0\n1 44 0\n2 48 0\nREFUSED 9 0\n"},
-    {"a symbol 65536 and padding that is not zero", "46 4E 54 42 00 02 00 02 00 00 00 01 00 02 00 00  00 00 00 00 00 00 00 20  00 01 00 01 00 00 00 22 "
+    {"65536 among the held symbols, and padding that is not zero", "46 4E 54 42 00 02 00 02 00 00 00 01 00 02 00 00  00 00 00 00 00 00 00 20  00 01 00 01 00 00 00 22 "
      "00 00  00 00 00 00", 0, /* a + b is 0 and a - b 65536: twice a is -1, a 32768 and b 32769 */
      "k 2 n 2 length 1 held 2 blocks 1\n0 32 0\n1 34 1\nREFUSED 10 0\n"},
-    {"65536 in the padding is a word that is none",
+    {"65536 in the message comes before padding that is not zero",
+     "46 4E 54 42 00 02 00 02 00 00 00 02 00 02 00 00  00 00 00 00 00 00 00 20  00 01 00 00 00 00 00 22  00 00  FF FF", 0,
+     "k 2 n 2 length 2 held 2 blocks 1\n0 32 0\n1 34 0\nREFUSED 9 0\n"}, /* a + b is 0 and a - b 65535: a is 65536 and b 1 */
+    {"65536 in the padding is WORD too",
      "46 4E 54 42 00 02 00 02 00 00 00 02 00 02 00 00  00 00 00 00 00 00 00 20  00 01 00 00 00 00 00 22  00 00  00 02", 0,
      "k 2 n 2 length 2 held 2 blocks 1\n0 32 0\n1 34 0\nREFUSED 9 0\n"}, /* a + b is 0 and a - b 2: a is 1 and b 65536 */
 
@@ -123,9 +126,11 @@ static const struct written cases[] = {
     {"an offset that is one too far", P11_SHAPE "00 00 00 04 00 01 00 00  00 02 00 00 00 00 00 19  00 01", 0, "REFUSED 11 0\n"},
 };
 
-/* Says what differs and ends the program. */
-static void differs(const char *what, const uint8_t *input, size_t length, const char *due, const struct printed *printed)
+/* Holds what was printed against what is due. Where it differs, says so and ends the program. */
+static void hold(const char *what, const uint8_t *input, size_t length, const char *due, const struct printed *printed)
 {
+    if (printed->length == strlen(due) && memcmp(printed->text, due, printed->length) == 0)
+        return;
     printf("DIFFERS: %s\nthe input is %zu bytes:", what, length);
     for (size_t i = 0; i < length && i < 200; i++)
         printf(" %02X", input[i]);
@@ -133,9 +138,10 @@ static void differs(const char *what, const uint8_t *input, size_t length, const
     exit(1);
 }
 
-static int is_due(const struct printed *printed, const char *due)
+static void count(struct second_answer answer)
 {
-    return printed->length == strlen(due) && memcmp(printed->text, due, printed->length) == 0;
+    seen[answer.status]++;
+    seen_later[answer.status] += answer.place != 0;
 }
 
 /* The bytes that a text of hexadecimal numbers tells, and how many they are. */
@@ -158,17 +164,13 @@ static void try_written(const struct written *one)
     size_t length = bytes_of(one->bytes, input);
     memset(input + length, 0, one->zeros);
     length += one->zeros;
-    const struct second_answer answer = second_listing(input, length, second);
+    count(second_listing(input, length, second));
     if (strcmp(second, one->text) != 0) {
         printf("FAILED: %s: the second coder lists\n%sand not\n%s", one->what, second, one->text);
         exit(1);
     }
-    if (!is_due(print_from_file(input, length), one->text))
-        differs(one->what, input, length, one->text, print_from_file(input, length));
-    if (!is_due(print_from_pieces(input, length, 10000, 0), one->text))
-        differs(one->what, input, length, one->text, print_from_pieces(input, length, 10000, 0));
-    seen[answer.status]++;
-    seen_later[answer.status] += answer.place != 0;
+    hold(one->what, input, length, one->text, print_from_file(input, length));
+    hold(one->what, input, length, one->text, print_from_pieces(input, length, 10000, 0));
     written++;
 }
 
@@ -176,14 +178,10 @@ static void try_written(const struct written *one)
 static void try_made(const char *what)
 {
     char due[LISTING_ROOM];
-    const struct second_answer answer = second_listing(made, made_length, due);
-    const struct printed *printed =
-        seeded % 2 == 0 ? print_from_file(made, made_length) : print_from_pieces(made, made_length, 1 + below(30000), 0);
+    const size_t piece = 1 + below(30000);
+    count(second_listing(made, made_length, due));
+    hold(what, made, made_length, due, seeded % 2 == 0 ? print_from_file(made, made_length) : print_from_pieces(made, made_length, piece, 0));
     seeded++;
-    if (!is_due(printed, due))
-        differs(what, made, made_length, due, printed);
-    seen[answer.status]++;
-    seen_later[answer.status] += answer.place != 0;
 }
 
 /* A file of the shape, some of its shadows, and damages of which the impossible ones are left out. */
@@ -228,10 +226,12 @@ static void try_long(void)
 static void try_beyond(void)
 {
     static const size_t lengths[] = {257, 258, 300, 511, 512, 513, 1000, 4095, 4096};
-    for (size_t round = 0; round < 4 * sizeof lengths / sizeof *lengths; round++)
-        try_sent("n above 256", 1 + below(30), lengths[round / 4], below(200), round % 2 == 0 ? 0 : choose_damages(1));
+    for (size_t round = 0; round < 4 * sizeof lengths / sizeof *lengths; round++) {
+        const size_t k = 1 + below(30);
+        try_sent("n above 256", k, lengths[round / 4], choose_length(k, 3), round % 2 == 0 ? 0 : choose_damages(1));
+    }
     for (size_t round = 0; round < 8; round++) {
-        choose_file(1 + below(30), 4096, below(200));
+        choose_file(1 + below(30), 4096, below(6));
         choose_shadows();
         make_bundle(0);
         put_number(made + 6, 2, 4097 + below(3));
@@ -253,10 +253,11 @@ static void try_few_of_long(void)
     }
 }
 
-/* A bundle of 24,576 bytes, for k = n: 16 + 8k + 2kB with 12,276 = k * (B + 4), as it is, damaged, and with bytes more or less. */
+/* Bundles of 24,576 bytes, 16 + 8k + 2kB with 12,280 = k * (B + 4), or a little more where there are overflow lists: as they are, with a byte
+ * more, and cut to about that length. */
 static void try_border(void)
 {
-    static const size_t ks[] = {1, 2, 3, 4, 5, 6, 8, 10};
+    static const size_t ks[] = {1, 2, 4, 5, 8, 10, 20, 40};
     for (size_t round = 0; round < 3 * sizeof ks / sizeof *ks; round++) {
         const size_t k = ks[round / 3], blocks = 12280 / k - 4;
         choose_file(k, k, 2 * k * blocks - below(2 * k));
@@ -297,20 +298,14 @@ static void try_ways(void)
     uint8_t p11[58];
     char due[LISTING_ROOM];
     const size_t length = bytes_of(P11, p11);
+    hold("P11 in pieces of one byte", p11, length, cases[0].text, print_from_pieces(p11, length, 1, 500));
+    hold("P11 in pieces of seven bytes", p11, length, cases[0].text, print_from_pieces(p11, length, 7, 500));
+    hold("standard input closed", p11, 0, "REFUSED 11 0\n", print_from_closed());
+    hold("standard input a folder", p11, 0, "REFUSED 11 0\n", print_from_folder());
     make_longest();
     second_listing(made, made_length, due);
-    if (!is_due(print_from_pieces(p11, length, 1, 500), cases[0].text))
-        differs("P11 in pieces of one byte", p11, length, cases[0].text, print_from_pieces(p11, length, 1, 500));
-    if (!is_due(print_from_pieces(p11, length, 7, 500), cases[0].text))
-        differs("P11 in pieces of seven bytes", p11, length, cases[0].text, print_from_pieces(p11, length, 7, 500));
-    if (!is_due(print_from_pieces(made, made_length, 101, 50), due))
-        differs("the longest listing, from small pieces", made, made_length, due, print_from_pieces(made, made_length, 101, 50));
-    if (!is_due(print_to_slow_reader(made, made_length), due))
-        differs("the longest listing, to a slow reader", made, made_length, due, print_to_slow_reader(made, made_length));
-    if (!is_due(print_from_closed(), "REFUSED 11 0\n"))
-        differs("standard input closed", p11, 0, "REFUSED 11 0\n", print_from_closed());
-    if (!is_due(print_from_folder(), "REFUSED 11 0\n"))
-        differs("standard input a folder", p11, 0, "REFUSED 11 0\n", print_from_folder());
+    hold("the longest listing, from small pieces", made, made_length, due, print_from_pieces(made, made_length, 101, 50));
+    hold("the longest listing, to a slow reader", made, made_length, due, print_to_slow_reader(made, made_length));
 }
 
 /* Prints how often each last line was seen. A run in which one of them never came up shows less than it should, and fails. */
@@ -337,9 +332,9 @@ static void report(void)
     }
 }
 
-int main(int count, char **words)
+int main(int word_count, char **words)
 {
-    if (count < 2) {
+    if (word_count < 2) {
         fprintf(stderr, "usage: listings WORD.., the words being the command that starts the listing program\n");
         return 2;
     }

@@ -48,6 +48,11 @@ static void choose_words(size_t kind)
 
 void choose_file(size_t k, size_t n, size_t length)
 {
+    /* with overflow lists as long as can be, and some bytes for damages that make it longer */
+    if (16 + 8 * n + 4 * n * second_blocks(k, length) + 64 > MOST_MADE) {
+        printf("FAILED: a file of %zu bytes with k %zu and n %zu is asked for, and its bundle has no room\n", length, k, n);
+        exit(1);
+    }
     sent.number++;
     sent.k = k;
     sent.n = n;

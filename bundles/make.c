@@ -68,10 +68,11 @@ static const char *what_to_change(size_t k, size_t n, size_t length)
 
 static void report(size_t k, size_t n, const char *path, size_t length, const char *bundle_path, size_t bundle_length)
 {
-    printf("%s: %zu bytes, %zu shadows of the %zu bytes of %s, any %zu of which bring it back\n", bundle_path, bundle_length, n, length, path, k);
+    printf("%s: %zu bytes, ", bundle_path, bundle_length);
+    printf("%zu shadows of the %zu bytes of %s, any %zu of which bring it back\n", n, length, path, k);
     if (n > N_SERVED || bundle_length > BUNDLE_SERVED || length > FILE_SERVED) {
-        printf("the listing program will answer ROOM for it (REFUSED 3 0): it serves bundles and files of up to 24,576 bytes each, and N up to ");
-        printf("256\n");
+        printf("the listing program will answer ROOM for it (REFUSED 3 0): ");
+        printf("it serves bundles and files of up to 24,576 bytes each, and N up to 256\n");
     }
 }
 
@@ -92,7 +93,7 @@ int main(int count, char **words)
     uint32_t *work = find_memory(work_room, sizeof *work);
     const uint32_t status = sulmirejo_write(k, n, file, length, bundle, room, work, work_room, &number);
     if (status != SULMIREJO_OK) {
-        fprintf(stderr, "no bundle is made: the library refuses by %u, place %zu, with the room that it asked for\n", (unsigned)status, number);
+        fprintf(stderr, "no bundle is made: the library refuses by %u, with the room that it asked for\n", (unsigned)status);
         return 1;
     }
     save(words[4], bundle, number);

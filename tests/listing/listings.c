@@ -67,9 +67,9 @@ static const struct written cases[] = {
      P11_SHAPE "00 00 00 08 00 03 00 00  00 00 00 00 00 00 00 28  00 01 00 00 00 00 00 2C  00 02 00 00 00 00 00 30 "
                "00 00 00 03  FF 00 FE 02  FF FF 00 00", 0,
      "k 2 n 4 length 8 held 3 blocks 2\n0 40 0\n1 44 0\n2 48 0\nREFUSED 9 0\n"},
-    {"65536 among the held symbols, and padding that is not zero", "46 4E 54 42 00 02 00 02 00 00 00 01 00 02 00 00  00 00 00 00 00 00 00 20  00 01 00 01 00 00 00 22 "
-     "00 00  00 00 00 00", 0, /* a + b is 0 and a - b 65536: twice a is -1, a 32768 and b 32769 */
-     "k 2 n 2 length 1 held 2 blocks 1\n0 32 0\n1 34 1\nREFUSED 10 0\n"},
+    {"65536 among the held symbols, and padding that is not zero",
+     "46 4E 54 42 00 02 00 02 00 00 00 01 00 02 00 00  00 00 00 00 00 00 00 20  00 01 00 01 00 00 00 22  00 00  00 00 00 00", 0,
+     "k 2 n 2 length 1 held 2 blocks 1\n0 32 0\n1 34 1\nREFUSED 10 0\n"}, /* a + b is 0 and a - b 65536: a is 32768 and b 32769 */
     {"65536 in the message comes before padding that is not zero",
      "46 4E 54 42 00 02 00 02 00 00 00 02 00 02 00 00  00 00 00 00 00 00 00 20  00 01 00 00 00 00 00 22  00 00  FF FF", 0,
      "k 2 n 2 length 2 held 2 blocks 1\n0 32 0\n1 34 0\nREFUSED 9 0\n"}, /* a + b is 0 and a - b 65535: a is 65536 and b 1 */

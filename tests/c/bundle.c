@@ -60,20 +60,6 @@ static void copy(uint8_t *to, struct bytes from)
         to[i] = from.bytes[i];
 }
 
-static size_t number_at(const uint8_t *at, size_t count)
-{
-    size_t number = 0;
-    for (size_t i = 0; i < count; i++)
-        number = number << 8 | at[i];
-    return number;
-}
-
-static void put_number(uint8_t *at, size_t count, size_t number)
-{
-    for (size_t i = 0; i < count; i++)
-        at[i] = (uint8_t)(number >> 8 * (count - 1 - i));
-}
-
 static void lend_space(size_t bytes, size_t cells)
 {
     fill_bytes_with_junk(&out, bytes);

@@ -50,6 +50,20 @@ size_t least(size_t a, size_t b)
     return a < b ? a : b;
 }
 
+size_t number_at(const uint8_t *at, size_t count)
+{
+    size_t number = 0;
+    for (size_t i = 0; i < count; i++)
+        number = number << 8 | at[i];
+    return number;
+}
+
+void put_number(uint8_t *at, size_t count, size_t number)
+{
+    for (size_t i = 0; i < count; i++)
+        at[i] = (uint8_t)(number >> 8 * (count - 1 - i));
+}
+
 static void expect_room(size_t room, size_t most)
 {
     if (room > most) {

@@ -21,6 +21,10 @@ void shuffle(uint32_t *list, size_t count);
 
 size_t least(size_t a, size_t b);
 
+/* The number that stands in so many bytes of a bundle, most significant byte first, and one put there. */
+size_t number_at(const uint8_t *at, size_t count);
+void put_number(uint8_t *at, size_t count, size_t number);
+
 /* A buffer of `room` cells to be lent, between two guards, and what all these cells have to hold after the call. */
 struct lent {
     size_t room;

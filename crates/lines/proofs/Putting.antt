@@ -1,7 +1,7 @@
 -- Text that is put one piece behind another.
 -- Assumes nothing.
 use mathlib.Core.Path.{_≡_, refl, sym, ap, _∙_}
-use mathlib.Core.List.{List, _++_, append-assoc}
+use mathlib.Core.List.{List, [], _++_, append-assoc}
 use Prim.Native.Nat.{ℕ, _+_, _-_, _≤_}
 use native.Mathlib.Nat.{le-refl}
 use native.Mathlib.Omega.{arith}
@@ -25,6 +25,16 @@ puts-behind text s e at room h =
           ∙ ap (drop (length text)) (take-append-drop (length s - at) rest) ∙ drop-drop (length text) at s));
       ends = refl;
       short = le-refl (length text);
+    }
+
+-- nothing
+pub puts-nothing : (s : List ℕ) (at : ℕ) → Puts [] 0 at s at s
+unfolding put
+puts-nothing s at =
+    record {
+      is = sym (take-append-drop at s) ∙ ap (λ (m : ℕ). take at s ++ drop m s) {x = at} {y = at + 0} (omega arith);
+      ends = omega arith;
+      short = le-refl 0;
     }
 
 -- the same text by another name, no longer than is said

@@ -11,9 +11,10 @@ use borrow.Author.Tests.{lt-ltb, le-ltb, ltb-false}
 use lib.Dec.{ltb}
 use lib.ListN.{length}
 use Rattle.field.specs.Leaves.{Leaves, left, unlessRefused, written}
-use Rattle.field.specs.Refusals.{Answer, result, refusal, refused, refuseIf}
+use Rattle.field.specs.Refusals.{Answer, result, refusal, numberOf, refused, refuseIf}
 use Rattle.field.specs.Shape.{longest}
 use Rattle.field.specs.Size.{sizeOf}
+use Rattle.field.specs.declared.refusal.Refusal.{Refusal}
 use Rattle.field.specs.declared.refusal.Refusal.the-variants.{Shape, Room, Few, Form}
 use Rattle.field.proofs.Checks.{or-false}
 use Rattle.field.proofs.Size.{size-enough, size-least}
@@ -24,8 +25,11 @@ use Rattle.layout.specs.Rooms.{workRoom}
 use Rattle.layout.proofs.Passing.{n-limited, held-few}
 use Rattle.reader.specs.Reading.{blocksAnswer}
 use Rattle.storage.specs.Blocks.{badBundleShape}
+use Rattle.bundle.specs.Answers.{toldLength}
 use Rattle.bundle.specs.Calls.{blocksLeave, readLeaves}
 use Rattle.bundle.specs.Checks.{roomChecks, readChecks}
+use Rattle.bundle.specs.declared.answer.LengthAnswer.{LengthAnswer}
+use Rattle.bundle.specs.declared.answer.LengthAnswer.the-variants.{Length, Refused}
 use Rattle.lines.specs.Lines.{lastLine}
 use Rattle.lines.specs.Puts.{Puts}
 use Rattle.lines.proofs.Putting.{puts-written}
@@ -153,21 +157,55 @@ pub alone-printed : (s : List ℕ) (a : Answer) → programAnswer s ≡ a → pr
 unfolding printed
 alone-printed s a is e = rw (is, e) refl
 
--- and what is left: o and w are what the reader left of output and working space, t what the output holds with the text at its front
-
-pub listed-leaves : (s out work o w t : List ℕ) (a : Answer) (text : List ℕ) {most r : ℕ} → length s ≤ mostInput
-    → left a o w ≡ readLeaves s out work → text ≡ printed s → Puts text most 0 o r t
-    → left (result (r ∷ [])) t w ≡ listLeaves s out work
-unfolding readIfShort
-listed-leaves s out work o w t a text short leaves same puts =
-    let it = puts-written puts in
-    let lists = ap {A = Leaves} {B = List ℕ} (λ l. l .list) leaves in
-    let works = ap {A = Leaves} {B = List ℕ} (λ l. l .work) leaves in
-    rw (le-ltb mostInput (length s) short) (cc (it .0, it .1, same, lists, works))
-
+-- An input that is not read
 pub too-long-leaves : (s out work t : List ℕ) {most r : ℕ} → mostInput < length s → Puts (lastLine (refused Room)) most 0 out r t
     → left (result (r ∷ [])) t work ≡ listLeaves s out work
 unfolding readIfShort printed programAnswer printsAlone alone
 too-long-leaves s out work t long puts =
     let it = puts-written puts in
     rw (lt-ltb mostInput (length s) long) (ap₂ (λ (e : ℕ) (l : List ℕ). left (result (e ∷ [])) l work) (it .1) (it .0))
+
+-- One call of the reader: o and w are what it left of output and working space, r what it answered
+module _ (s out work o w : List ℕ) (r : LengthAnswer) (short : length s ≤ mostInput) (room : length out ≡ mostLength) (cells : length work ≡ 8 * mostN) (leaves : left (toldLength r) o w ≡ readLeaves s out work) where
+  told : programAnswer s ≡ toldLength r
+  told = sym (read-answers s out work short room cells) ∙ sym (ap {A = Leaves} {B = Answer} (λ l. l .answer) leaves)
+
+  -- the text at the front of what the reader left
+  leaves-text : (text t : List ℕ) {most e : ℕ} → text ≡ printed s → Puts text most 0 o e t → left (result (e ∷ [])) t w ≡ listLeaves s out work
+  unfolding readIfShort
+  leaves-text text t same puts =
+      let it = puts-written puts in
+      let lists = ap {A = Leaves} {B = List ℕ} (λ l. l .list) leaves in
+      let works = ap {A = Leaves} {B = List ℕ} (λ l. l .work) leaves in
+      rw (le-ltb mostInput (length s) short) (cc (it .0, it .1, same, lists, works))
+
+  -- the file was read
+  module _ (v : ℕ) (is : r ≡ Length v) where
+    whole : programAnswer s ≡ result (v ∷ [])
+    whole = told ∙ ap toldLength is
+
+    pub whole-good : (layoutChecks s ≡ result []) × (128 + 63 * heldIn s ≤ 16256)
+    unfolding printsAlone
+    whole-good = follows-good s short (ap printsAlone whole)
+
+    pub whole-leaves : (t : List ℕ) {most e : ℕ} → Puts (listing s ++ lastLine (result [])) most 0 o e t → left (result (e ∷ [])) t w ≡ listLeaves s out work
+    unfolding printsAlone lastLine
+    whole-leaves t puts = leaves-text (listing s ++ lastLine (result [])) t (follows-printed s (result (v ∷ [])) whole refl) puts
+
+  -- or refused; only is whether that line stands alone
+  module _ (x : Refusal) (number : ℕ) (only : Bool) (is : r ≡ Refused x) (numbered : number ≡ numberOf x) (tested : only ≡ alone number) where
+    partly : programAnswer s ≡ refused x
+    partly = told ∙ ap toldLength is
+
+    lone : printsAlone (refused x) ≡ only
+    unfolding printsAlone
+    lone = sym (tested ∙ ap alone numbered)
+
+    pub partly-good : only ≡ false → (layoutChecks s ≡ result []) × (128 + 63 * heldIn s ≤ 16256)
+    partly-good follows = follows-good s short (ap printsAlone partly ∙ lone ∙ follows)
+
+    pub partly-leaves : (t : List ℕ) {most e : ℕ} → only ≡ false → Puts (listing s ++ lastLine (refused x)) most 0 o e t → left (result (e ∷ [])) t w ≡ listLeaves s out work
+    partly-leaves t follows puts = leaves-text (listing s ++ lastLine (refused x)) t (follows-printed s (refused x) partly (lone ∙ follows)) puts
+
+    pub alone-leaves : (t : List ℕ) {most e : ℕ} → only ≡ true → Puts (lastLine (refused x)) most 0 o e t → left (result (e ∷ [])) t w ≡ listLeaves s out work
+    alone-leaves t stands puts = leaves-text (lastLine (refused x)) t (alone-printed s (refused x) partly (lone ∙ stands)) puts

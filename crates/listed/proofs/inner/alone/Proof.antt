@@ -1,20 +1,16 @@
-use borrow.Author.Needs.{needs}
+-- `listed::inner::alone` meets its contract: the number is compared with the three.
+-- Assumes nothing.
+use mathlib.Core.Path.{refl}
+use borrow.Author.Tests.{eq-eqb, ne-eqb}
+use Rattle.listed.specs.Listing.{alone}
 use Rattle.listed.proofs.inner.alone.Statement.{statement}
 use Rattle.listed.proofs.inner.alone.Tie as tie
-use Rattle.listed.proofs.inner.alone.Reads as reads
-use Rattle.listed.proofs.inner.alone.Lts as lts
-
--- src/inner.rt:24:9
-returns : tie.Need-returns
-returns c = search needs
-
--- src/inner.rt:27:9
-returns-2 : tie.Need-returns-2
-returns-2 c = search needs
-
--- src/inner.rt:20:1
-returns-3 : tie.Need-returns-3
-returns-3 c = search needs
 
 pub alone-spec : {M : Type 1} → statement M
-alone-spec = tie.close (tie.spec returns returns-2 returns-3)
+unfolding alone
+alone-spec =
+    tie.close
+    (tie.spec
+    (λ c. rw (eq-eqb (c .before .args .number) 1 (c .if1 .taken)) refl)
+    (λ c. rw (ne-eqb (c .before .before .args .number) 1 (c .before .if1 .left), eq-eqb (c .before .before .args .number) 3 (c .if2 .taken)) refl)
+    (λ c. rw (ne-eqb (c .before .before .args .number) 1 (c .before .if1 .left), ne-eqb (c .before .before .args .number) 3 (c .if2 .left)) refl))

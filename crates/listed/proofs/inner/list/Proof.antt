@@ -1,126 +1,80 @@
+-- `listed::inner::list` meets its contract: what is too long is not read; else the text goes by what the reader answers.
+-- Assumes nothing.
+use Prim.Native.Nat.{zero-le}
+use native.Mathlib.Omega.{arith}
 use borrow.Author.Needs.{needs}
+use Rattle.lines.proofs.Putting.{puts-more}
+use Rattle.listed.specs.Answers.{mostInput, mostLength}
+use Rattle.listed.proofs.Answering.{too-long-leaves, whole-good, whole-leaves, partly-good, partly-leaves, alone-leaves}
 use Rattle.listed.proofs.inner.list.Statement.{statement}
 use Rattle.listed.proofs.inner.list.Tie as tie
-use Rattle.listed.proofs.inner.list.Reads as reads
-use Rattle.listed.proofs.inner.list.Lts as lts
-use Rattle.bundle.proofs.read.Reads as read-reads
-use Rattle.lines.proofs.inner.put_ok.Reads as put-ok-reads
-use Rattle.lines.proofs.inner.put_refused.Reads as put-refused-reads
-use Rattle.listed.proofs.inner.alone.Reads as alone-reads
-use Rattle.listed.proofs.table.put_listing.Reads as put-listing-reads
-use Rattle.telling.proofs.number.Reads as number-reads
-
--- src/inner.rt:38:9
-put-refused-requires : tie.Need-put-refused-requires
-put-refused-requires c κs = search needs
-
--- src/inner.rt:38:9
-same-length : tie.Need-same-length
-same-length c = search needs
-
--- src/inner.rt:38:9
-returns : tie.Need-returns
-returns c = search needs
-
--- src/inner.rt:40:11
-read-requires : tie.Need-read-requires
-read-requires c κs = search needs
-
--- src/inner.rt:42:42
-enum-told : tie.Need-enum-told
-enum-told c = search needs
-
--- src/inner.rt:42:17
-put-listing-requires : tie.Need-put-listing-requires
-put-listing-requires c κs = search needs
-
--- src/inner.rt:43:13
-put-ok-requires : tie.Need-put-ok-requires
-put-ok-requires c κs = search needs
-
--- src/inner.rt:45:31
-enum-known-refusal : tie.Need-enum-known-refusal
-enum-known-refusal c = search needs
-
--- src/inner.rt:46:22
-number-requires : tie.Need-number-requires
-number-requires c κs = search needs
-
--- src/inner.rt:46:16
-alone-requires : tie.Need-alone-requires
-alone-requires c κs = search needs
-
--- src/inner.rt:47:17
-put-refused-requires-2 : tie.Need-put-refused-requires-2
-put-refused-requires-2 c κs = search needs
-
--- src/inner.rt:47:17
-same-length-2 : tie.Need-same-length-2
-same-length-2 c = search needs
-
--- src/inner.rt:47:17
-same-length-3 : tie.Need-same-length-3
-same-length-3 c = search needs
-
--- src/inner.rt:47:17
-returns-2 : tie.Need-returns-2
-returns-2 c = search needs
-
--- src/inner.rt:49:17
-put-listing-requires-2 : tie.Need-put-listing-requires-2
-put-listing-requires-2 c κs = search needs
-
--- src/inner.rt:50:13
-put-refused-requires-3 : tie.Need-put-refused-requires-3
-put-refused-requires-3 c κs = search needs
-
--- src/inner.rt:33:1
-same-length-4 : tie.Need-same-length-4
-same-length-4 c = search needs
-
--- src/inner.rt:33:1
-same-length-5 : tie.Need-same-length-5
-same-length-5 c = search needs
-
--- src/inner.rt:33:1
-returns-3 : tie.Need-returns-3
-returns-3 c = search needs
-
--- src/inner.rt:33:1
-same-length-6 : tie.Need-same-length-6
-same-length-6 c = search needs
-
--- src/inner.rt:33:1
-same-length-7 : tie.Need-same-length-7
-same-length-7 c = search needs
-
--- src/inner.rt:33:1
-returns-4 : tie.Need-returns-4
-returns-4 c = search needs
 
 pub list-spec : {M : Type 1} → statement M
+unfolding mostInput mostLength
 list-spec =
     tie.close
     (tie.spec
-    put-refused-requires
-    same-length
-    returns
-    read-requires
-    enum-told
-    put-listing-requires
-    put-ok-requires
-    enum-known-refusal
-    number-requires
-    alone-requires
-    put-refused-requires-2
-    same-length-2
-    same-length-3
-    returns-2
-    put-listing-requires-2
-    put-refused-requires-3
-    same-length-4
-    same-length-5
-    returns-3
-    same-length-6
-    same-length-7
-    returns-4)
+    (λ c κs. omega (arith, c .before .before .before .before .before .pre .0))
+    (λ c. search needs)
+    (λ c.
+    let put = c .before .before in
+    let start = put .before .before .before .before .before .before in
+    too-long-leaves (start .args .input .now) (start .args .out .now) (start .args .work .now) _ (put .before .before .if1 .taken) (put .put-refused .ensures))
+    (λ c κs. search needs)
+    (λ c. search needs)
+    (λ c κs.
+    let read = c .before .before .before .before .before .before .before in
+    let start = read .before .before .before .before .before .before .before in
+    let good = whole-good (start .args .input .now) (start .args .out .now) (start .args .work .now) _ _ _ (read .before .before .before .if1 .left) (start .pre .0) (start .pre .1) (read .read .ensures) _ (c .before .enum-told .given .1) in
+    (good .0, omega (arith, good .1, start .pre .0, read .read .kept .1 .0)))
+    (λ c κs.
+    let listed = c .before .before .before in
+    let read = listed .before .before .before .before .before .before .before .before in
+    let start = read .before .before .before .before .before .before .before in
+    let good = whole-good (start .args .input .now) (start .args .out .now) (start .args .work .now) _ _ _ (read .before .before .before .if1 .left) (start .pre .0) (start .pre .1) (read .read .ensures) _ (listed .before .before .enum-told .given .1) in
+    omega (arith, good .1, start .pre .0, read .read .kept .1 .0, listed .put-listing .ensures .ends, listed .put-listing .ensures .short, listed .put-listing .kept .1 .0))
+    (λ c. search needs)
+    (λ c κs. search needs)
+    (λ c κs. search needs)
+    (λ c κs.
+    let read = c .before .before .before .before .before .before .before .before .before .before .before in
+    let start = read .before .before .before .before .before .before .before in
+    omega (arith, start .pre .0, read .read .kept .1 .0))
+    (λ c. search needs)
+    (λ c. search needs)
+    (λ c.
+    let put = c .before .before in
+    let tested = put .before .before .before in
+    let read = tested .before .before .before .before .before .before .before .before .before in
+    let start = read .before .before .before .before .before .before .before in
+    alone-leaves (start .args .input .now) (start .args .out .now) (start .args .work .now) _ _ _ (read .before .before .before .if1 .left) (start .pre .0) (start .pre .1) (read .read .ensures) _ _ _ (tested .before .before .before .refusal .given .1) (tested .before .number .ensures) (tested .alone .ensures) _ (put .before .before .if2 .taken) (put .put-refused2 .ensures))
+    (λ c κs.
+    let tested = c .before .before in
+    let read = tested .before .before .before .before .before .before .before .before .before in
+    let start = read .before .before .before .before .before .before .before in
+    let good = partly-good (start .args .input .now) (start .args .out .now) (start .args .work .now) _ _ _ (read .before .before .before .if1 .left) (start .pre .0) (start .pre .1) (read .read .ensures) _ _ _ (tested .before .before .before .refusal .given .1) (tested .before .number .ensures) (tested .alone .ensures) (c .before .if2 .left) in
+    (good .0, omega (arith, good .1, start .pre .0, read .read .kept .1 .0)))
+    (λ c κs.
+    let listed = c .before .before .before in
+    let tested = listed .before .before .before in
+    let read = tested .before .before .before .before .before .before .before .before .before in
+    let start = read .before .before .before .before .before .before .before in
+    let good = partly-good (start .args .input .now) (start .args .out .now) (start .args .work .now) _ _ _ (read .before .before .before .if1 .left) (start .pre .0) (start .pre .1) (read .read .ensures) _ _ _ (tested .before .before .before .refusal .given .1) (tested .before .number .ensures) (tested .alone .ensures) (listed .before .before .if2 .left) in
+    omega (arith, good .1, start .pre .0, read .read .kept .1 .0, listed .put-listing2 .ensures .ends, listed .put-listing2 .ensures .short, listed .put-listing2 .kept .1 .0))
+    (λ c. search needs)
+    (λ c. search needs)
+    (λ c.
+    let ok = c .before .before in
+    let listed = ok .before .before .before .before in
+    let read = listed .before .before .before .before .before .before .before .before in
+    let start = read .before .before .before .before .before .before .before in
+    whole-leaves (start .args .input .now) (start .args .out .now) (start .args .work .now) _ _ _ (read .before .before .before .if1 .left) (start .pre .0) (start .pre .1) (read .read .ensures) _ (listed .before .before .enum-told .given .1) _ (puts-more zero-le (listed .put-listing .ensures) (ok .put-ok .ensures)))
+    (λ c. search needs)
+    (λ c. search needs)
+    (λ c.
+    let put = c .before .before in
+    let listed = put .before .before .before .before in
+    let tested = listed .before .before .before in
+    let read = tested .before .before .before .before .before .before .before .before .before in
+    let start = read .before .before .before .before .before .before .before in
+    partly-leaves (start .args .input .now) (start .args .out .now) (start .args .work .now) _ _ _ (read .before .before .before .if1 .left) (start .pre .0) (start .pre .1) (read .read .ensures) _ _ _ (tested .before .before .before .refusal .given .1) (tested .before .number .ensures) (tested .alone .ensures) _ (listed .before .before .if2 .left) (puts-more zero-le (listed .put-listing2 .ensures) (put .put-refused3 .ensures))))

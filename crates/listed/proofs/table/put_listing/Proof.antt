@@ -1,62 +1,35 @@
+-- `listed::table::put_listing` meets its contract: the header's line is put, and the entries' behind it.
+-- Assumes nothing.
+use native.Mathlib.Omega.{arith}
 use borrow.Author.Needs.{needs}
+use Rattle.layout.proofs.Passing.{header-inside}
+use Rattle.listed.proofs.Tabling.{listing-puts}
 use Rattle.listed.proofs.table.put_listing.Statement.{statement}
 use Rattle.listed.proofs.table.put_listing.Tie as tie
-use Rattle.listed.proofs.table.put_listing.Reads as reads
-use Rattle.listed.proofs.table.put_listing.Lts as lts
-use Rattle.layout.proofs.inner.blocks_in.Reads as blocks-in-reads
-use Rattle.layout.proofs.inner.held_in.Reads as held-in-reads
-use Rattle.layout.proofs.inner.k_in.Reads as k-in-reads
-use Rattle.layout.proofs.inner.length_in.Reads as length-in-reads
-use Rattle.layout.proofs.inner.n_in.Reads as n-in-reads
-use Rattle.lines.proofs.inner.put_header.Reads as put-header-reads
-use Rattle.listed.proofs.table.put_entries.Reads as put-entries-reads
-
--- src/table.rt:44:9
-held-in-requires : tie.Need-held-in-requires
-held-in-requires c κs = search needs
-
--- src/table.rt:46:9
-k-in-requires : tie.Need-k-in-requires
-k-in-requires c κs = search needs
-
--- src/table.rt:47:9
-n-in-requires : tie.Need-n-in-requires
-n-in-requires c κs = search needs
-
--- src/table.rt:48:9
-length-in-requires : tie.Need-length-in-requires
-length-in-requires c κs = search needs
-
--- src/table.rt:50:9
-blocks-in-requires : tie.Need-blocks-in-requires
-blocks-in-requires c κs = search needs
-
--- src/table.rt:45:9
-put-header-requires : tie.Need-put-header-requires
-put-header-requires c κs = search needs
-
--- src/table.rt:54:5
-put-entries-requires : tie.Need-put-entries-requires
-put-entries-requires c κs = search needs
-
--- src/table.rt:40:1
-same-length : tie.Need-same-length
-same-length c = search needs
-
--- src/table.rt:40:1
-returns : tie.Need-returns
-returns c = search needs
 
 pub put-listing-spec : {M : Type 1} → statement M
 put-listing-spec =
     tie.close
     (tie.spec
-    held-in-requires
-    k-in-requires
-    n-in-requires
-    length-in-requires
-    blocks-in-requires
-    put-header-requires
-    put-entries-requires
-    same-length
-    returns)
+    (λ c κs. let start = c .before .before in header-inside (start .args .bundle .now) (start .pre .0))
+    (λ c κs. let start = c .before .before .before in header-inside (start .args .bundle .now) (start .pre .0))
+    (λ c κs. let start = c .before .before .before .before in header-inside (start .args .bundle .now) (start .pre .0))
+    (λ c κs. let start = c .before .before .before .before .before in header-inside (start .args .bundle .now) (start .pre .0))
+    (λ c κs. search needs)
+    (λ c κs. search needs)
+    (λ c κs.
+    let header = c .before .before .before in
+    let held = header .before .before .before .before .before .before in
+    let start = held .before .before .before in
+    (start .pre .0, held .held-in .ensures .0, omega (arith, held .held-in .ensures .0, header .put-header .ensures .ends, header .put-header .ensures .short, header .put-header .kept .1 .1 .1 .1 .1 .0)))
+    (λ c. search needs)
+    (λ c.
+    let entries = c .before .before in
+    let header = entries .before .before .before .before in
+    let blocks = header .before .before in
+    let bytes = blocks .before in
+    let n = bytes .before in
+    let k = n .before in
+    let held = k .before in
+    let start = held .before .before .before in
+    listing-puts (start .args .bundle .now) _ _ _ _ _ (k .k-in .ensures .0) (n .n-in .ensures .0) (bytes .length-in .ensures .0) (held .held-in .ensures .0) (blocks .blocks-in .ensures .0) (header .put-header .ensures) (entries .put-entries .ensures)))

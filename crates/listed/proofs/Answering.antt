@@ -9,7 +9,7 @@ use native.Mathlib.Nat.{lt-of-not-le}
 use native.Mathlib.Omega.{arith}
 use borrow.Author.Tests.{lt-ltb, le-ltb, ltb-false}
 use lib.Dec.{ltb}
-use lib.ListN.{length}
+use lib.ListN.{length, getD, drop, length-append}
 use Rattle.field.specs.Leaves.{Leaves, left, unlessRefused, written}
 use Rattle.field.specs.Refusals.{Answer, result, refusal, numberOf, refused, refuseIf}
 use Rattle.field.specs.Shape.{longest}
@@ -209,3 +209,16 @@ module _ (s out work o w : List ℕ) (r : LengthAnswer) (short : length s ≤ mo
 
     pub alone-leaves : (t : List ℕ) {most e : ℕ} → only ≡ true → Puts (lastLine (refused x)) most 0 o e t → left (result (e ∷ [])) t w ≡ listLeaves s out work
     alone-leaves t stands puts = leaves-text (lastLine (refused x)) t (alone-printed s (refused x) partly (lone ∙ stands)) puts
+
+-- the text lies inside what it is put into
+
+abbrev shown : Answer → ℕ
+shown (result vs) = getD vs 0 0
+shown (refusal number place) = 0
+
+pub text-inside : (s out work t w : List ℕ) (e : ℕ) → left (result (e ∷ [])) t w ≡ listLeaves s out work → e ≤ length t
+text-inside s out work t w e leaves =
+    let text = printed s in
+    let lists = ap {A = Leaves} {B = List ℕ} (λ l. l .list) leaves in
+    let answers = ap {A = Leaves} {B = ℕ} (λ l. shown (l .answer)) leaves in
+    omega (arith, answers, ap {A = List ℕ} {B = ℕ} length lists, length-append text (drop (length text) (readIfShort s out work .list)))

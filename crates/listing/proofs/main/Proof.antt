@@ -1,0 +1,26 @@
+-- `listing::main` meets its contract: the buffers have the sizes that the work asks for, and the text lies inside the output.
+-- Assumes nothing.
+use borrow.Author.Needs.{needs}
+use Rattle.listed.specs.Answers.{mostN, mostLength}
+use Rattle.listed.proofs.Answering.{text-inside}
+use Rattle.listing.proofs.main.Statement.{statement}
+use Rattle.listing.proofs.main.Tie as tie
+
+pub main-spec : {M : Type 1} → statement M
+unfolding mostN mostLength
+main-spec =
+    tie.close
+    (tie.spec
+    (λ c. search needs)
+    (λ c κs. search needs)
+    (λ c. search needs)
+    (λ c. search needs)
+    (λ c. search needs)
+    (λ c. search needs)
+    (λ c. search needs)
+    (λ c κs. (search needs, search needs))
+    (λ c. search needs)
+    (λ c. search needs)
+    (λ c. text-inside _ _ _ _ _ _ (c .before .before .before .list .ensures))
+    (λ c κs. search needs)
+    (λ c. search needs))

@@ -6,7 +6,7 @@ use Prim.Native.Nat.{ℕ, _-_, _≤_}
 use native.Mathlib.Nat.{min-le-left}
 use native.Mathlib.Omega.{arith}
 use lib.ListN.{length, take, drop, replicate, length-take, length-replicate, take-append-drop, drop-of-length-le}
-use lib.Seq.{length-take-le, drop-append-le}
+use lib.Seq.{length-take-le, take-all, drop-append-le}
 use Rattle.field.specs.Leaves.{Leaves, left, written, zeroed}
 use Rattle.field.specs.Refusals.{Answer, result, refusal, refused, toldOutcome}
 use Rattle.field.specs.declared.refusal.Outcome.{Outcome}
@@ -23,16 +23,21 @@ use Rattle.layout.specs.Rooms.{workRoom}
 written-all : (vs list : List ℕ) → length list ≤ length vs → written vs list ≡ vs
 written-all vs list le = ap (vs ++_) (drop-of-length-le list {i = length vs} le) ∙ append-nil vs
 
+file-short : (s : List ℕ) → length (fileIn s) ≤ lengthIn s
+unfolding fileIn
+file-short s =
+    omega (arith, length-take (lengthIn s) (bytesBefore s (blocksIn s)), min-le-left (lengthIn s) (length (bytesBefore s (blocksIn s))))
+
 -- The work: file and cells are what was lent of the output and of the working space, f and c what they hold at the end
 
 module _ (s file cells f c : List ℕ) (long : length file ≡ lengthIn s) (room : length cells ≡ workRoom (nIn s)) (m : ℕ) (same : m ≡ length cells) (cleared : c ≡ replicate m 0) (o : Outcome) (told : after (toldOutcome o) (result (lengthIn s ∷ [])) ≡ blocksAnswer s 0 (blocksIn s)) where
   zero : c ≡ zeroed (workRoom (nIn s)) cells
   zero = cleared ∙ ap (λ (z : ℕ). replicate z 0) (same ∙ room) ∙ sym (zeroed-all (workRoom (nIn s)) cells room)
 
-  pub leaves-file : o ≡ Done → (L : ℕ) → L ≡ lengthIn s → length f ≡ length file → (toldOutcome o ≡ result [] → f ≡ fileIn s)
+  pub leaves-file : o ≡ Done → (L : ℕ) → L ≡ lengthIn s → length f ≡ length file → (toldOutcome o ≡ result [] → f ≡ take (length file) (fileIn s))
       → left (result (L ∷ [])) f c ≡ blocksLeave (blocksAnswer s 0 (blocksIn s)) s file cells
   leaves-file done L is kept file-is =
-      ap₂ (left (result (L ∷ []))) (whole ∙ ap (λ (t : List ℕ). written t file) (file-is (ap toldOutcome done))) zero
+      ap₂ (left (result (L ∷ []))) (whole ∙ ap (λ (t : List ℕ). written t file) (file-is (ap toldOutcome done) ∙ take-all (length file) (fileIn s) (omega (arith, long, file-short s)))) zero
       ∙ ap (λ (z : ℕ). left (result (z ∷ [])) (written (fileIn s) file) (zeroed (workRoom (nIn s)) cells)) is
       ∙ ap (λ (a : Answer). blocksLeave a s file cells) (ap (λ (p : Outcome). after (toldOutcome p) (result (lengthIn s ∷ []))) (sym done) ∙ told)
     where
@@ -63,7 +68,7 @@ extended rest behind it = left (it .answer) (it .list ++ rest) (it .work ++ behi
 pub blocks-whole : (s : List ℕ) (answer a : Answer) (L room : ℕ) (out work f c : List ℕ) → L ≡ lengthIn s → room ≡ workRoom (nIn s)
     → lengthIn s ≤ length out → workRoom (nIn s) ≤ length work → left a f c ≡ blocksLeave answer s (take (L - 0) out) (take (room - 0) work)
     → left a (f ++ drop (L - 0) out) (c ++ drop (room - 0) work) ≡ blocksLeave answer s out work
-unfolding extended fileIn
+unfolding extended
 blocks-whole s (refusal number place) a L room out work f c first second enough space leaves =
     ap (extended (drop (L - 0) out) (drop (room - 0) work)) leaves
     ∙ ap₂ (left (refusal number place))
@@ -72,6 +77,5 @@ blocks-whole s (refusal number place) a L room out work f c first second enough 
 blocks-whole s (result vs) a L room out work f c first second enough space leaves =
     ap (extended (drop (L - 0) out) (drop (room - 0) work)) leaves
     ∙ ap₂ (left (result vs))
-    (again-written (take (lengthIn s) (bytesBefore s (blocksIn s))) out (lengthIn s) L first enough
-    (omega (arith, length-take (lengthIn s) (bytesBefore s (blocksIn s)), min-le-left (lengthIn s) (length (bytesBefore s (blocksIn s))))))
+    (again-written (fileIn s) out (lengthIn s) L first enough (file-short s))
     (zeroed-again room (workRoom (nIn s)) work second space)

@@ -6,13 +6,13 @@ use mathlib.Core.List.{List, [], _∷_, _++_, append-assoc, append-nil}
 use mathlib.Core.Option.{Option, some, none}
 use Prim.Native.Nat.{ℕ, zero, suc, _+_, _*_, _-_, _<_, _≤_}
 use native.Mathlib.Decide.{decLe}
-use native.Mathlib.Nat.{min-le-left}
+use native.Mathlib.Nat.{le-refl, min-le-left}
 use native.Mathlib.Numerals.{add-one}
 use native.Mathlib.Omega.{arith}
 use borrow.Author.Tests.{ltb-false, eqb-false}
 use lib.Dec.{eqb}
 use lib.ListN.{length, getD, take, drop, length-append, length-take, drop-of-length-le}
-use lib.Seq.{length-take-le, take-at, take-all}
+use lib.Seq.{length-take-le, take-at, take-all, take-length, take-append-le, take-take}
 use Rattle.field.specs.First.{first}
 use Rattle.field.specs.Leaves.{left}
 use Rattle.field.specs.Refusals.{Answer, result, refused, toldOutcome}
@@ -41,6 +41,7 @@ use Rattle.layout.specs.Fields.{kIn, nIn, lengthIn, heldIn, blocksIn}
 use Rattle.layout.specs.Layout.{layoutChecks}
 use Rattle.storage.proofs.BytesLaws.{in-bytes-length}
 use Rattle.layout.proofs.Passing.{k-some}
+use Rattle.reader.proofs.MessageBytes.{laid-past}
 use Rattle.reader.specs.Gathering.{Laid}
 use Rattle.reader.specs.Reading.{some-meets, symbolHeld, heldAt, decodedAt, badWord, badTail, judged, blockAnswer, blocksAnswer, bytesOf, bytesBefore, fileIn}
 use Rattle.layout.specs.Rooms.{workRoom}
@@ -93,10 +94,10 @@ take-front zero p q = refl
 take-front (suc n) [] q = refl
 take-front (suc n) (x ∷ p) q = ap (x ∷_) (take-front n p q)
 
-pub bytes-laid : (k b from : ℕ) (message file after : List ℕ) → length message ≡ k → from ≡ 2 * (k * b) → from ≤ length file
+bytes-laid-inside : (k b from : ℕ) (message file after : List ℕ) → length message ≡ k → from ≡ 2 * (k * b) → from ≤ length file
     → after ≡ take from file ++ (take (length file - from) (inBytes message) ++ drop (from + 2 * length message) file)
     → take (2 * (k * suc b)) after ≡ take (length file) (take (2 * (k * b)) file ++ inBytes message)
-bytes-laid k b from message file after long first inside is =
+bytes-laid-inside k b from message file after long first inside is =
     ap (take (2 * (k * suc b))) is
     ∙ elim (decLe (from + 2 * k) (length file)) [
       | yes le ↦ ap (λ (s : List ℕ). take (2 * (k * suc b)) (take from file ++ (s ++ rest))) (take-all (length file - from) (inBytes message) (omega (arith, bytes, le)))
@@ -119,6 +120,19 @@ bytes-laid k b from message file after long first inside is =
 
     front : length (take from file) ≡ from
     front = length-take-le from file inside
+
+-- the same wherever the block begins
+pub bytes-laid : (k b from : ℕ) (message file after : List ℕ) → length message ≡ k → from ≡ 2 * (k * b)
+    → after ≡ take from file ++ (take (length file - from) (inBytes message) ++ drop (from + 2 * length message) file)
+    → take (2 * (k * suc b)) after ≡ take (length file) (take (2 * (k * b)) file ++ inBytes message)
+bytes-laid k b from message file after long first is =
+    elim (decLe from (length file)) [
+      | yes inside ↦ bytes-laid-inside k b from message file after long first inside is
+      | no past ↦ ap (take (2 * (k * suc b))) (is ∙ sym (laid-past (inBytes message) file from (2 * length message) (omega (arith, past))))
+          ∙ take-all (2 * (k * suc b)) file (omega (arith, past, first))
+          ∙ sym (take-length file) ∙ sym (take-append-le (length file) file (inBytes message) (le-refl (length file)))
+          ∙ ap (λ (s : List ℕ). take (length file) (s ++ inBytes message)) (sym (take-all (2 * (k * b)) file (omega (arith, past, first))))
+    ]
 
 -- One block
 
@@ -191,13 +205,12 @@ laid-kept s b n cells now good second laid same kept =
     behind = subst (λ (m : ℕ). drop (4 * sizeOf m) now ≡ drop (4 * sizeOf m) cells) second kept
 
 -- the file with one block more
-pub bytes-more : (s : List ℕ) (b : ℕ) (message file now : List ℕ) → decodedAt s b ≡ some message
-    → now ≡ take (lengthIn s) (file ++ inBytes message) → file ≡ take (lengthIn s) (bytesBefore s b)
-    → now ≡ take (lengthIn s) (bytesBefore s (suc b))
+pub bytes-more : (s : List ℕ) (b n : ℕ) (message file now : List ℕ) → decodedAt s b ≡ some message
+    → now ≡ take n (file ++ inBytes message) → file ≡ take n (bytesBefore s b) → now ≡ take n (bytesBefore s (suc b))
 unfolding bytesBefore bytesOf
-bytes-more s b message file now decoded is before =
-    is ∙ ap (λ (l : List ℕ). take (lengthIn s) (l ++ inBytes message)) before ∙ take-front (lengthIn s) (bytesBefore s b) (inBytes message)
-    ∙ ap (λ (o : Option (List ℕ)). take (lengthIn s) (bytesBefore s b ++ bytesOf o)) (sym decoded)
+bytes-more s b n message file now decoded is before =
+    is ∙ ap (λ (l : List ℕ). take n (l ++ inBytes message)) before ∙ take-front n (bytesBefore s b) (inBytes message)
+    ∙ ap (λ (o : Option (List ℕ)). take n (bytesBefore s b ++ bytesOf o)) (sym decoded)
 
 -- The blocks in order
 
@@ -227,39 +240,41 @@ module _ (s : List ℕ) (good : layoutChecks s ≡ result []) where
   unfolding blocksIn
   begins-inside b h = block-inside (kIn s) (lengthIn s) b (k-some s good) h
 
-  pub file-whole : (b : ℕ) (file : List ℕ) → length file ≡ lengthIn s → b ≤ blocksIn s → blocksIn s ≤ b
-      → take (2 * (kIn s * b)) file ≡ take (lengthIn s) (bytesBefore s b) → file ≡ fileIn s
+  pub file-whole : (b : ℕ) (file : List ℕ) → length file ≤ lengthIn s → b ≤ blocksIn s → blocksIn s ≤ b
+      → take (2 * (kIn s * b)) file ≡ take (length file) (bytesBefore s b) → file ≡ take (length file) (fileIn s)
   unfolding fileIn blocksIn
   file-whole b file long le ge so-far =
       sym (take-all (2 * (kIn s * b)) file (omega (arith, long, blocks-hold (kIn s) (lengthIn s) (k-some s good), ap (kIn s *_) {x = b} {y = blocksOf (kIn s) (lengthIn s)} (omega arith))))
-      ∙ so-far ∙ ap (λ (z : ℕ). take (lengthIn s) (bytesBefore s z)) {x = b} {y = blocksOf (kIn s) (lengthIn s)} (omega arith)
+      ∙ so-far ∙ ap (λ (z : ℕ). take (length file) (bytesBefore s z)) {x = b} {y = blocksOf (kIn s) (lengthIn s)} (omega arith)
+      ∙ sym (take-take (length file) (lengthIn s) (bytesBefore s (blocksOf (kIn s) (lengthIn s))) long)
 
 -- b blocks are taken: the working space, the answer still to come, the file so far
 pub record Taken (s : List ℕ) (b : ℕ) (file cells : List ℕ) : Type 0 where
   pub laid : Laid s b cells
-  pub long : length file ≡ lengthIn s
+  pub long : length file ≤ lengthIn s
   pub left : blocksAnswer s 0 (blocksIn s) ≡ blocksAnswer s b (blocksIn s - b)
-  pub so-far : take (2 * (kIn s * b)) file ≡ take (lengthIn s) (bytesBefore s b)
+  pub so-far : take (2 * (kIn s * b)) file ≡ take (length file) (bytesBefore s b)
 
-pub taken-none : (s file cells : List ℕ) → Laid s 0 cells → length file ≡ lengthIn s → Taken s 0 file cells
+pub taken-none : (s file cells : List ℕ) → Laid s 0 cells → length file ≤ lengthIn s → Taken s 0 file cells
 unfolding bytesBefore
 taken-none s file cells laid long =
     record {
       laid = laid;
       long = long;
       left = ap (blocksAnswer s 0) {x = blocksIn s} {y = blocksIn s - 0} (omega arith);
-      so-far = ap (λ (z : ℕ). take z file) {x = 2 * (kIn s * 0)} {y = 0} (omega arith) ∙ sym (take-all (lengthIn s) [] (omega arith));
+      so-far = ap (λ (z : ℕ). take z file) {x = 2 * (kIn s * 0)} {y = 0} (omega arith) ∙ sym (take-all (length file) [] (omega arith));
     }
 
 -- after and room are what the file and the cells hold once block b was taken
 pub taken-more : (s : List ℕ) (b : ℕ) (file cells after room : List ℕ) (o : Outcome) → layoutChecks s ≡ result [] → b < blocksIn s → Taken s b file cells
     → toldOutcome o ≡ blockAnswer s b → o ≡ Done → Laid s (suc b) room → length after ≡ length file
-    → (toldOutcome o ≡ result [] → take (2 * (kIn s * b)) file ≡ take (lengthIn s) (bytesBefore s b) → take (2 * (kIn s * suc b)) after ≡ take (lengthIn s) (bytesBefore s (suc b)))
+    → (toldOutcome o ≡ result [] → take (2 * (kIn s * b)) file ≡ take (length file) (bytesBefore s b) → take (2 * (kIn s * suc b)) after ≡ take (length file) (bytesBefore s (suc b)))
     → Taken s (b + 1) after room
 taken-more s b file cells after room o good h taken told done laid same more =
     record {
       laid = subst (λ (z : ℕ). Laid s z room) (sym (add-one b)) laid;
-      long = same ∙ taken .long;
+      long = omega (arith, same, taken .long);
       left = answer-on s good b h (taken .left) (sym told ∙ ap toldOutcome done);
-      so-far = subst (λ (z : ℕ). take (2 * (kIn s * z)) after ≡ take (lengthIn s) (bytesBefore s z)) (sym (add-one b)) (more (ap toldOutcome done) (taken .so-far));
+      so-far = subst (λ (z : ℕ). take (2 * (kIn s * z)) after ≡ take (length after) (bytesBefore s z)) (sym (add-one b))
+      (more (ap toldOutcome done) (taken .so-far) ∙ ap (λ (m : ℕ). take m (bytesBefore s (suc b))) (sym same));
     }

@@ -2,7 +2,7 @@
 -- Assumes nothing.
 use mathlib.Core.Path.{_≡_, refl, sym, ap, ap₂, _∙_}
 use mathlib.Core.Bool.{true, false, not}
-use mathlib.Core.List.{List, [], _∷_, _++_}
+use mathlib.Core.List.{List, [], _∷_, _++_, append-nil}
 use Prim.Native.Nat.{ℕ, zero, suc, _+_, _*_, _-_, _/_, _%_, _<_, _≤_}
 use native.Mathlib.Decide.{decLt}
 use native.Mathlib.Omega.{arith}
@@ -96,3 +96,10 @@ module _ (bytes file : List ℕ) (from i : ℕ) (inside : from + i ≤ length fi
       ap₂ (λ (s t : List ℕ). take from file ++ (s ++ t))
       (tab-take i bytes le ∙ ap (λ (m : ℕ). take m bytes) {x = i} {y = length file - from} (omega arith))
       (drop-of-length-le file {i = from + i} full ∙ sym (drop-of-length-le file {i = from + length bytes} (omega arith)))
+
+-- none, where the file ends before
+pub laid-past : (bytes file : List ℕ) (from m : ℕ) → length file ≤ from → file ≡ take from file ++ (take (length file - from) bytes ++ drop (from + m) file)
+laid-past bytes file from m past =
+    sym (append-nil file)
+    ∙ ap₂ _++_ (sym (take-all from file past))
+    (sym (drop-of-length-le file {i = from + m} (omega arith)) ∙ ap (λ (z : ℕ). take z bytes ++ drop (from + m) file) {x = 0} {y = length file - from} (omega arith))

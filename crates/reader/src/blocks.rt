@@ -117,10 +117,10 @@ fn gather(bundle: &[u8], b: usize, cells: &mut [u32])
 
 // The message of block b into the file, or WORD or TAIL.
 fn take_message(bundle: &[u8], b: usize, message: &[u32], file: &mut [u8]) -> Outcome
-    requires { ⌜ (layoutChecks (now bundle) ≡ result []) × (b < blocksIn (now bundle)) × (length (now file) ≡ lengthIn (now bundle)) ⌝ }
+    requires { ⌜ (layoutChecks (now bundle) ≡ result []) × (b < blocksIn (now bundle)) ⌝ }
     requires { ⌜ (length (now message) ≡ kIn (now bundle)) × Symbols (now message) ⌝ }
     ensures { λ r. ⌜ toldOutcome r ≡ judged (kIn (now (bundle .entry))) (lengthIn (now (bundle .entry))) b (some (now (message .entry))) ⌝ }
-    ensures { λ r. ⌜ (toldOutcome r ≡ result [] → take (2 * (kIn (now (bundle .entry)) * suc b)) (now (file .exit)) ≡ take (lengthIn (now (bundle .entry))) (take (2 * (kIn (now (bundle .entry)) * b)) (now (file .entry)) ++ inBytes (now (message .entry)))) ⌝ }
+    ensures { λ r. ⌜ (toldOutcome r ≡ result [] → take (2 * (kIn (now (bundle .entry)) * suc b)) (now (file .exit)) ≡ take (length (now (file .entry))) (take (2 * (kIn (now (bundle .entry)) * b)) (now (file .entry)) ++ inBytes (now (message .entry)))) ⌝ }
 {
     let from = 2 * (k_in(bundle) * b);
     if bad_word(message) {
@@ -136,10 +136,10 @@ fn take_message(bundle: &[u8], b: usize, message: &[u32], file: &mut [u8]) -> Ou
 // Block b: its message into the file, or its refusal.
 fn read_block(bundle: &[u8], b: usize, file: &mut [u8], cells: &mut [u32]) -> Outcome
     requires { ⌜ (layoutChecks (now bundle) ≡ result []) × (b < blocksIn (now bundle)) × (kIn (now bundle) ≤ heldIn (now bundle)) ⌝ }
-    requires { ⌜ (length (now file) ≡ lengthIn (now bundle)) × Laid (now bundle) b (now cells) ⌝ }
+    requires { ⌜ Laid (now bundle) b (now cells) ⌝ }
     ensures { λ r. ⌜ toldOutcome r ≡ blockAnswer (now (bundle .entry)) b ⌝ }
     ensures { λ _. ⌜ Laid (now (bundle .entry)) (suc b) (now (cells .exit)) ⌝ }
-    ensures { λ r. ⌜ (toldOutcome r ≡ result [] → take (2 * (kIn (now (bundle .entry)) * b)) (now (file .entry)) ≡ take (lengthIn (now (bundle .entry))) (bytesBefore (now (bundle .entry)) b) → take (2 * (kIn (now (bundle .entry)) * suc b)) (now (file .exit)) ≡ take (lengthIn (now (bundle .entry))) (bytesBefore (now (bundle .entry)) (suc b))) ⌝ }
+    ensures { λ r. ⌜ (toldOutcome r ≡ result [] → take (2 * (kIn (now (bundle .entry)) * b)) (now (file .entry)) ≡ take (length (now (file .entry))) (bytesBefore (now (bundle .entry)) b) → take (2 * (kIn (now (bundle .entry)) * suc b)) (now (file .exit)) ≡ take (length (now (file .entry))) (bytesBefore (now (bundle .entry)) (suc b))) ⌝ }
 {
     let k = k_in(bundle);
     gather(bundle, b, cells);
@@ -149,11 +149,12 @@ fn read_block(bundle: &[u8], b: usize, file: &mut [u8], cells: &mut [u32]) -> Ou
     Outcome::Refused(Refusal::Disagree(b))
 }
 
-// The blocks in order, as far as none is refused.
+// The blocks in order, as far as none is refused. Of the file the first bytes are laid, as many as there is room for: a caller who only wants to
+// know whether it can be read lends none.
 pub fn read_blocks(bundle: &[u8], file: &mut [u8], cells: &mut [u32]) -> Outcome
-    requires { ⌜ (layoutChecks (now bundle) ≡ result []) × (kIn (now bundle) ≤ heldIn (now bundle)) × (length (now file) ≡ lengthIn (now bundle)) × Laid (now bundle) 0 (now cells) ⌝ }
+    requires { ⌜ (layoutChecks (now bundle) ≡ result []) × (kIn (now bundle) ≤ heldIn (now bundle)) × (length (now file) ≤ lengthIn (now bundle)) × Laid (now bundle) 0 (now cells) ⌝ }
     ensures { λ r. ⌜ after (toldOutcome r) (result (lengthIn (now (bundle .entry)) ∷ [])) ≡ blocksAnswer (now (bundle .entry)) 0 (blocksIn (now (bundle .entry))) ⌝ }
-    ensures { λ r. ⌜ (toldOutcome r ≡ result [] → now (file .exit) ≡ fileIn (now (bundle .entry))) ⌝ }
+    ensures { λ r. ⌜ (toldOutcome r ≡ result [] → now (file .exit) ≡ take (length (now (file .entry))) (fileIn (now (bundle .entry)))) ⌝ }
 {
     let blocks = blocks_in(bundle);
     let mut b = 0;

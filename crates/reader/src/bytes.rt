@@ -47,11 +47,14 @@ pub fn bad_bytes(message: &[u32], from: usize) -> bool
     false
 }
 
-// The bytes of the message's words from an index of the file on, as many as the file has.
+// The bytes of the message's words from an index of the file on, as many as there is room for.
 pub fn lay_bytes(message: &[u32], from: usize, file: &mut [u8])
-    requires { ⌜ ((j : ℕ) → j < length (now message) → getD (now message) j 0 < 65536) × (from ≤ length (now file)) ⌝ }
+    requires { ⌜ ((j : ℕ) → j < length (now message) → getD (now message) j 0 < 65536) ⌝ }
     ensures { λ _. ⌜ now (file .exit) ≡ take from (now (file .entry)) ++ (take (length (now (file .entry)) - from) (inBytes (now (message .entry))) ++ drop (from + 2 * length (now (message .entry))) (now (file .entry))) ⌝ }
 {
+    if file.len() <= from {
+        return;
+    }
     let mut i = 0;
     while i < 2 * message.len() {
         if file.len() - from <= i {

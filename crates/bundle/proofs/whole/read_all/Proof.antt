@@ -1,6 +1,7 @@
 -- `bundle::whole::read_all` meets its contract: the file where all blocks are taken, else zeros, and the cells cleared.
 -- Assumes nothing.
 use mathlib.Core.Path.{_∙_}
+use native.Mathlib.Nat.{le-of-eq}
 use borrow.Author.Needs.{needs}
 use Rattle.layout.proofs.Passing.{header-inside}
 use Rattle.bundle.proofs.ReadLeaving.{leaves-file, leaves-refusal}
@@ -12,7 +13,7 @@ read-all-spec =
     tie.close
     (tie.spec
     (λ c κs. let start = c .before .before .before .before in (start .pre .0, start .pre .3))
-    (λ c κs. let start = c .before .before .before .before .before .before .before .before .before in (start .pre .0, start .pre .1, start .pre .2, c .before .before .before .before .start .ensures))
+    (λ c κs. let start = c .before .before .before .before .before .before .before .before .before in (start .pre .0, start .pre .1, le-of-eq (start .pre .2), c .before .before .before .before .start .ensures))
     (λ c. search needs)
     (λ c κs. search needs)
     (λ c κs. let start = c .before .before .before .before .before .before .before .before .before .before .before .before .before .before .before .before .before .before .before .before in header-inside (start .args .bundle .now) (start .pre .0))

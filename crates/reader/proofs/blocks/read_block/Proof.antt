@@ -25,14 +25,14 @@ read-block-spec =
     tie.close
     (tie.spec
     (λ c κs. let start = c .before .before .before in header-inside (start .args .bundle .now) (start .pre .0 .0))
-    (λ c κs. let start = c .before .before .before .before .before in (start .pre .0 .0, start .pre .0 .1, start .pre .1 .1))
+    (λ c κs. let start = c .before .before .before .before .before in (start .pre .0 .0, start .pre .0 .1, start .pre .1))
     (λ c κs. let start = c .before .before .before .before .before .before .before .before in header-inside (start .args .bundle .now) (start .pre .0 .0))
     (λ c κs. let start = c .before .before .before .before .before .before .before .before .before in header-inside (start .args .bundle .now) (start .pre .0 .0))
     (λ c κs. let start = c .before .before .before .before .before .before .before .before .before .before .before in solve-ready (start .args .bundle .now) (start .args .b) (c .before .before .before .before .before .gather .last .1 .1 .0) (λ i h. omega (arith, c .before .before .before .before .before .before .before .before .before .before .shared-slice-known .given i)) (start .pre .0 .0) (start .pre .0 .2) (c .before .before .before .before .before .gather .ensures .0) (c .before .before .before .before .before .gather .ensures .1) _ _ _ (c .before .before .before .before .before .before .before .k-in .ensures .0) (c .before .before .n-in .ensures .0) (c .before .held-in .ensures .0))
     (λ c. search needs)
     (λ c. search needs)
     (λ c. let start = c .before .before .before .before .before .before .before .before .before .before .before .before .before .before .before .before in omega (arith, c .before .before .before .before .solve-within .kept .1 .1 .1 .0, solve-ready (start .args .bundle .now) (start .args .b) (c .before .before .before .before .before .before .before .before .before .before .gather .last .1 .1 .0) (λ i h. omega (arith, c .before .before .before .before .before .before .before .before .before .before .before .before .before .before .before .shared-slice-known .given i)) (start .pre .0 .0) (start .pre .0 .2) (c .before .before .before .before .before .before .before .before .before .before .gather .ensures .0) (c .before .before .before .before .before .before .before .before .before .before .gather .ensures .1) _ _ _ (c .before .before .before .before .before .before .before .before .before .before .before .before .k-in .ensures .0) (c .before .before .before .before .before .before .before .n-in .ensures .0) (c .before .before .before .before .before .before .held-in .ensures .0) .2, width-k _ _ _ (c .before .before .before .before .before .before .before .before .before .before .gather .last .1 .1 .0) (solve-ready (start .args .bundle .now) (start .args .b) (c .before .before .before .before .before .before .before .before .before .before .gather .last .1 .1 .0) (λ i h. omega (arith, c .before .before .before .before .before .before .before .before .before .before .before .before .before .before .before .shared-slice-known .given i)) (start .pre .0 .0) (start .pre .0 .2) (c .before .before .before .before .before .before .before .before .before .before .gather .ensures .0) (c .before .before .before .before .before .before .before .before .before .before .gather .ensures .1) _ _ _ (c .before .before .before .before .before .before .before .before .before .before .before .before .k-in .ensures .0) (c .before .before .before .before .before .before .before .n-in .ensures .0) (c .before .before .before .before .before .before .held-in .ensures .0))))
-    (λ c κs. let start = c .before .before .before .before .before .before .before .before .before .before .before .before .before .before .before .before .before .before in ((start .pre .0 .0, start .pre .0 .1, start .pre .1 .0), message-good (start .args .bundle .now) (start .args .b) (c .before .before .before .before .before .before .before .before .before .before .before .before .gather .last .1 .1 .0) (λ i h. omega (arith, c .before .before .before .before .before .before .before .before .before .before .before .before .before .before .before .before .before .shared-slice-known .given i)) (start .pre .0 .0) (start .pre .0 .2) (c .before .before .before .before .before .before .before .before .before .before .before .before .gather .ensures .0) (c .before .before .before .before .before .before .before .before .before .before .before .before .gather .ensures .1) _ _ _ (c .before .before .before .before .before .before .before .before .before .before .before .before .before .before .k-in .ensures .0) (c .before .before .before .before .before .before .before .before .before .n-in .ensures .0) (c .before .before .before .before .before .before .before .before .held-in .ensures .0) (c .before .before .before .before .before .before .solve-within .last .1 .1 .1 .0) _ (c .before .before .before .before .before .before .solve-within .ensures .0) (c .before .before .before .if1 .taken)))
+    (λ c κs. let start = c .before .before .before .before .before .before .before .before .before .before .before .before .before .before .before .before .before .before in ((start .pre .0 .0, start .pre .0 .1), message-good (start .args .bundle .now) (start .args .b) (c .before .before .before .before .before .before .before .before .before .before .before .before .gather .last .1 .1 .0) (λ i h. omega (arith, c .before .before .before .before .before .before .before .before .before .before .before .before .before .before .before .before .before .shared-slice-known .given i)) (start .pre .0 .0) (start .pre .0 .2) (c .before .before .before .before .before .before .before .before .before .before .before .before .gather .ensures .0) (c .before .before .before .before .before .before .before .before .before .before .before .before .gather .ensures .1) _ _ _ (c .before .before .before .before .before .before .before .before .before .before .before .before .before .before .k-in .ensures .0) (c .before .before .before .before .before .before .before .before .before .n-in .ensures .0) (c .before .before .before .before .before .before .before .before .held-in .ensures .0) (c .before .before .before .before .before .before .solve-within .last .1 .1 .1 .0) _ (c .before .before .before .before .before .before .solve-within .ensures .0) (c .before .before .before .if1 .taken)))
     (λ c. c .before .before .take-message .kept .1 .1 .1 .0)
     (λ c. c .before .before .before .before .before .before .before .before .before .solve-within .kept .1 .1 .1 .0 ∙ c .before .before .before .before .before .before .before .before .before .before .before .before .before .before .before .gather .kept .1 .1 .0)
     (λ c.
@@ -41,7 +41,7 @@ read-block-spec =
       block-message (start .args .bundle .now) (start .args .b) _ _ decoded (c .before .before .take-message .ensures .0),
       (
         laid-kept (start .args .bundle .now) _ _ (c .before .before .before .before .before .before .before .before .before .before .before .before .before .before .before .gather .last .1 .1 .0) (c .before .before .before .before .before .before .before .before .before .solve-within .last .1 .1 .1 .0) (start .pre .0 .0) (c .before .before .before .before .before .before .before .before .before .before .before .before .n-in .ensures .0) (c .before .before .before .before .before .before .before .before .before .before .before .before .before .before .before .gather .ensures .0) (c .before .before .before .before .before .before .before .before .before .solve-within .kept .1 .1 .1 .0) (c .before .before .before .before .before .before .before .before .before .solve-within .ensures .1),
-        λ done before. bytes-more (start .args .bundle .now) (start .args .b) _ _ _ decoded (c .before .before .take-message .ensures .1 done) before,
+        λ done before. bytes-more (start .args .bundle .now) (start .args .b) (length (start .args .file .now)) _ _ _ decoded (c .before .before .take-message .ensures .1 done) before,
       ),
     ))
     (λ c. c .before .before .before .solve-within .kept .1 .1 .1 .0 ∙ c .before .before .before .before .before .before .before .before .before .gather .kept .1 .1 .0)

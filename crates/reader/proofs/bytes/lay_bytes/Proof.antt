@@ -9,7 +9,7 @@ use lib.ListN.{length, getD, take, drop}
 use Rattle.poly.proofs.Window.{window, window-none, window-store}
 use Rattle.storage.specs.Bytes.{inBytes}
 use Rattle.storage.proofs.BytesLaws.{in-bytes-length}
-use Rattle.reader.proofs.MessageBytes.{laid-all, laid-full}
+use Rattle.reader.proofs.MessageBytes.{laid-all, laid-full, laid-past}
 use Rattle.reader.proofs.bytes.lay_bytes.Statement.{statement}
 use Rattle.reader.proofs.bytes.lay_bytes.Tie as tie
 
@@ -33,16 +33,19 @@ lay-bytes-spec =
     (tie.spec
     Inv-loop
     μ-loop
+    (λ c.
+    let start = c .before .before .before in
+    laid-past (inBytes (start .args .message .now)) (start .args .file .now) (start .args .from) (2 * length (start .args .message .now)) (c .if1 .taken))
     (λ c. (search needs, search needs, search needs, window-none _ _ _))
     (λ c. search needs)
     (λ c. search needs)
     (λ c. search needs)
     (λ c.
     let l = c .before .before .loop in
-    let start = c .before .before .before .before .before in
+    let start = c .before .before .before .before .before .before in
     twice (start .args .message .now) (start .args .file .now) (start .args .from) _
-    (l .inv .3 ∙ laid-full (inBytes (start .args .message .now)) (start .args .file .now) (start .args .from) (l .i) (l .inv .1) (omega (arith, l .inv .0, in-bytes-length (start .args .message .now))) (omega (arith, l .inv .2, c .if1 .taken))))
-    (λ c κs. (search needs, c .before .before .before .before .before .pre .0))
+    (l .inv .3 ∙ laid-full (inBytes (start .args .message .now)) (start .args .file .now) (start .args .from) (l .i) (l .inv .1) (omega (arith, l .inv .0, in-bytes-length (start .args .message .now))) (omega (arith, l .inv .2, c .if2 .taken))))
+    (λ c κs. (search needs, c .before .before .before .before .before .before .pre))
     (λ c. search needs)
     (λ c. search needs)
     (λ c. search needs)
@@ -53,11 +56,11 @@ lay-bytes-spec =
       search needs,
       search needs,
       search needs,
-      window-store (c .before .before .before .before .before .before .args .from) (l .i) _ _ _ (l .file) _ refl (search needs) (l .inv .3) (c .byte-of .ensures .0),
+      window-store (c .before .before .before .before .before .before .before .args .from) (l .i) _ _ _ (l .file) _ refl (search needs) (l .inv .3) (c .byte-of .ensures .0),
     ))
     (λ c. search needs)
     (λ c.
     let l = c .before .loop in
-    let start = c .before .before .before .before in
+    let start = c .before .before .before .before .before in
     twice (start .args .message .now) (start .args .file .now) (start .args .from) _
     (l .inv .3 ∙ laid-all (inBytes (start .args .message .now)) (start .args .file .now) (start .args .from) (l .i) (l .inv .1) (omega (arith, l .inv .0, in-bytes-length (start .args .message .now))) (omega (arith, c .loop-test .left, in-bytes-length (start .args .message .now))))))

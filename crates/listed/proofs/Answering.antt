@@ -9,11 +9,13 @@ use native.Mathlib.Nat.{lt-of-not-le}
 use native.Mathlib.Omega.{arith}
 use borrow.Author.Tests.{lt-ltb, le-ltb, ltb-false}
 use lib.Dec.{ltb}
-use lib.ListN.{length, getD, drop, length-append}
+use lib.ListN.{length, getD, drop, replicate, length-append}
 use Rattle.field.specs.Leaves.{Leaves, left, unlessRefused, written}
-use Rattle.field.specs.Refusals.{Answer, result, refusal, numberOf, refused, refuseIf}
+use Rattle.field.specs.Refusals.{Answer, result, refusal, numberOf, refused, refuseIf, toldOutcome}
 use Rattle.field.specs.Shape.{longest}
 use Rattle.field.specs.Size.{sizeOf}
+use Rattle.field.specs.declared.refusal.Outcome.{Outcome}
+use Rattle.field.specs.declared.refusal.Outcome.the-variants.{Done, Refused}
 use Rattle.field.specs.declared.refusal.Refusal.{Refusal}
 use Rattle.field.specs.declared.refusal.Refusal.the-variants.{Shape, Room, Few, Form}
 use Rattle.field.proofs.Checks.{or-false}
@@ -25,16 +27,13 @@ use Rattle.layout.specs.Rooms.{workRoom}
 use Rattle.layout.proofs.Passing.{n-limited, held-few}
 use Rattle.reader.specs.Reading.{blocksAnswer}
 use Rattle.storage.specs.Blocks.{badBundleShape}
-use Rattle.bundle.specs.Answers.{toldLength}
 use Rattle.bundle.specs.Calls.{blocksLeave, readLeaves}
 use Rattle.bundle.specs.Checks.{roomChecks, readChecks}
-use Rattle.bundle.specs.declared.answer.LengthAnswer.{LengthAnswer}
-use Rattle.bundle.specs.declared.answer.LengthAnswer.the-variants.{Length, Refused}
 use Rattle.lines.specs.Lines.{lastLine}
 use Rattle.lines.specs.Puts.{Puts}
 use Rattle.lines.proofs.Putting.{puts-written}
 use Rattle.listed.specs.Answers.{mostInput, mostN, mostLength, servedAnswer, programAnswer}
-use Rattle.listed.specs.Calls.{readIfShort, listLeaves}
+use Rattle.listed.specs.Calls.{listLeaves}
 use Rattle.listed.specs.Listing.{listing, alone, printsAlone, printed}
 
 -- The reader's answer
@@ -127,6 +126,42 @@ read-answers s out work short o w =
     ∙ layout-same s _ _ (served-checks s)
     ∙ short-program s short
 
+-- The program's own checks, as the code makes them: n, L, m and k are what it has read
+
+module _ (s : List ℕ) (n L m k : ℕ) (is-n : n ≡ nIn s) (is-L : L ≡ lengthIn s) (is-m : m ≡ heldIn s) (is-k : k ≡ kIn s) where
+  pub n-refused : mostN < n → refused Room ≡ servedAnswer s
+  unfolding servedAnswer
+  n-refused large = rw (lt-ltb mostN (nIn s) (omega (arith, is-n))) refl
+
+  pub length-refused : mostLength < L → refused Room ≡ servedAnswer s
+  unfolding servedAnswer
+  length-refused large = rw (lt-ltb mostLength (lengthIn s) (omega (arith, is-L)), or-turned (ltb mostN (nIn s)) true) refl
+
+  pub held-refused : n ≤ mostN → L ≤ mostLength → m < k → refused Few ≡ servedAnswer s
+  unfolding servedAnswer
+  held-refused some-n some-L few =
+      rw (le-ltb mostN (nIn s) (omega (arith, is-n)), le-ltb mostLength (lengthIn s) (omega (arith, is-L)), lt-ltb (heldIn s) (kIn s) (omega (arith, is-m, is-k))) refl
+
+  pub blocks-judged : n ≤ mostN → L ≤ mostLength → k ≤ m → blocksAnswer s 0 (blocksIn s) ≡ servedAnswer s
+  unfolding servedAnswer
+  blocks-judged some-n some-L enough =
+      rw (le-ltb mostN (nIn s) (omega (arith, is-n)), le-ltb mostLength (lengthIn s) (omega (arith, is-L)), le-ltb (heldIn s) (kIn s) (omega (arith, is-m, is-k))) refl
+
+-- the cells that decoding takes are there
+pub cells-enough : (n stated : ℕ) → n ≤ mostN → stated ≡ workRoom n → stated ≤ 8 * mostN
+unfolding mostN workRoom
+cells-enough n stated few is = omega (arith, size-least n 8 few)
+
+pub long-refused : (s : List ℕ) → mostInput < length s → refused Room ≡ programAnswer s
+unfolding programAnswer
+long-refused s long = rw (lt-ltb mostInput (length s) long) refl
+
+pub layout-refused : (s : List ℕ) (x : Refusal) → length s ≤ mostInput → layoutChecks s ≡ refused x → refused x ≡ programAnswer s
+layout-refused s x short bad = sym (ap (λ (a : Answer). after a (servedAnswer s)) bad) ∙ short-program s short
+
+pub layout-passed : (s : List ℕ) → length s ≤ mostInput → layoutChecks s ≡ result [] → servedAnswer s ≡ programAnswer s
+layout-passed s short good = sym (ap (λ (a : Answer). after a (servedAnswer s)) good) ∙ short-program s short
+
 -- Where the listing is printed, the layout is good and the table short
 
 served-follow : (bad : Bool) (later : Answer) → printsAlone (refuseIf bad Room later) ≡ false → bad ≡ false
@@ -138,10 +173,14 @@ served-few : (s : List ℕ) → printsAlone (servedAnswer s) ≡ false → nIn s
 unfolding servedAnswer
 served-few s e = ltb-false mostN (nIn s) (or-false (ltb mostN (nIn s)) (ltb mostLength (lengthIn s)) (served-follow _ _ e) .0)
 
-pub follows-good : (s : List ℕ) → length s ≤ mostInput → printsAlone (programAnswer s) ≡ false
-    → (layoutChecks s ≡ result []) × (128 + 63 * heldIn s ≤ 16256)
+program-follow : (s : List ℕ) → printsAlone (programAnswer s) ≡ false → ltb mostInput (length s) ≡ false
+unfolding programAnswer
+program-follow s e = served-follow (ltb mostInput (length s)) _ e
+
+pub follows-good : (s : List ℕ) → printsAlone (programAnswer s) ≡ false → (layoutChecks s ≡ result []) × (128 + 63 * heldIn s ≤ 16256)
 unfolding mostN
-follows-good s short e =
+follows-good s e =
+    let short = ltb-false mostInput (length s) (program-follow s e) in
     let told = ap printsAlone (short-program s short) ∙ e in
     let good = layout-follow s (servedAnswer s) told in
     let few = served-few s (sym (ap printsAlone (ap (λ (a : Answer). after a (servedAnswer s)) good)) ∙ told) in
@@ -149,66 +188,51 @@ follows-good s short e =
 
 -- What is printed
 
-pub follows-printed : (s : List ℕ) (a : Answer) → programAnswer s ≡ a → printsAlone a ≡ false → listing s ++ lastLine a ≡ printed s
+follows-printed : (s : List ℕ) (a : Answer) → programAnswer s ≡ a → printsAlone a ≡ false → listing s ++ lastLine a ≡ printed s
 unfolding printed
 follows-printed s a is e = rw (is, e) refl
 
-pub alone-printed : (s : List ℕ) (a : Answer) → programAnswer s ≡ a → printsAlone a ≡ true → lastLine a ≡ printed s
+alone-printed : (s : List ℕ) (a : Answer) → programAnswer s ≡ a → printsAlone a ≡ true → lastLine a ≡ printed s
 unfolding printed
 alone-printed s a is e = rw (is, e) refl
 
--- An input that is not read
-pub too-long-leaves : (s out work t : List ℕ) {most r : ℕ} → mostInput < length s → Puts (lastLine (refused Room)) most 0 out r t
-    → left (result (r ∷ [])) t work ≡ listLeaves s out work
-unfolding readIfShort printed programAnswer printsAlone alone
-too-long-leaves s out work t long puts =
-    let it = puts-written puts in
-    rw (lt-ltb mostInput (length s) long) (ap₂ (λ (e : ℕ) (l : List ℕ). left (result (e ∷ [])) l work) (it .1) (it .0))
-
--- One call of the reader: o and w are what it left of output and working space, r what it answered
-module _ (s out work o w : List ℕ) (r : LengthAnswer) (short : length s ≤ mostInput) (room : length out ≡ mostLength) (cells : length work ≡ 8 * mostN) (leaves : left (toldLength r) o w ≡ readLeaves s out work) where
-  told : programAnswer s ≡ toldLength r
-  told = sym (read-answers s out work short room cells) ∙ sym (ap {A = Leaves} {B = Answer} (λ l. l .answer) leaves)
-
-  -- the text at the front of what the reader left
-  leaves-text : (text t : List ℕ) {most e : ℕ} → text ≡ printed s → Puts text most 0 o e t → left (result (e ∷ [])) t w ≡ listLeaves s out work
-  unfolding readIfShort
-  leaves-text text t same puts =
+-- and what is left: text and work are what was lent, w what the working space holds, o the answer of the code
+module _ (s text work w : List ℕ) (m : ℕ) (same : m ≡ length work) (cleared : w ≡ replicate m 0) (o : Outcome) (answers : after (toldOutcome o) (result (lengthIn s ∷ [])) ≡ programAnswer s) where
+  leaves-text : (t new : List ℕ) {most e : ℕ} → t ≡ printed s → Puts t most 0 text e new → left (result (e ∷ [])) new w ≡ listLeaves s text work
+  leaves-text t new is puts =
       let it = puts-written puts in
-      let lists = ap {A = Leaves} {B = List ℕ} (λ l. l .list) leaves in
-      let works = ap {A = Leaves} {B = List ℕ} (λ l. l .work) leaves in
-      rw (le-ltb mostInput (length s) short) (cc (it .0, it .1, same, lists, works))
+      cc (it .0, it .1, is, cleared, same)
 
-  -- the file was read
-  module _ (v : ℕ) (is : r ≡ Length v) where
-    whole : programAnswer s ≡ result (v ∷ [])
-    whole = told ∙ ap toldLength is
+  -- the file can be read
+  module _ (is : o ≡ Done) where
+    whole : programAnswer s ≡ result (lengthIn s ∷ [])
+    whole = sym answers ∙ ap (λ (p : Outcome). after (toldOutcome p) (result (lengthIn s ∷ []))) is
 
     pub whole-good : (layoutChecks s ≡ result []) × (128 + 63 * heldIn s ≤ 16256)
     unfolding printsAlone
-    whole-good = follows-good s short (ap printsAlone whole)
+    whole-good = follows-good s (ap printsAlone whole)
 
-    pub whole-leaves : (t : List ℕ) {most e : ℕ} → Puts (listing s ++ lastLine (result [])) most 0 o e t → left (result (e ∷ [])) t w ≡ listLeaves s out work
+    pub whole-leaves : (new : List ℕ) {most e : ℕ} → Puts (listing s ++ lastLine (result [])) most 0 text e new → left (result (e ∷ [])) new w ≡ listLeaves s text work
     unfolding printsAlone lastLine
-    whole-leaves t puts = leaves-text (listing s ++ lastLine (result [])) t (follows-printed s (result (v ∷ [])) whole refl) puts
+    whole-leaves new puts = leaves-text (listing s ++ lastLine (result [])) new (follows-printed s (result (lengthIn s ∷ [])) whole refl) puts
 
-  -- or refused; only is whether that line stands alone
-  module _ (x : Refusal) (number : ℕ) (only : Bool) (is : r ≡ Refused x) (numbered : number ≡ numberOf x) (tested : only ≡ alone number) where
+  -- or is refused; only is whether that line stands alone
+  module _ (x : Refusal) (number : ℕ) (only : Bool) (is : o ≡ Refused x) (numbered : number ≡ numberOf x) (tested : only ≡ alone number) where
     partly : programAnswer s ≡ refused x
-    partly = told ∙ ap toldLength is
+    partly = sym answers ∙ ap (λ (p : Outcome). after (toldOutcome p) (result (lengthIn s ∷ []))) is
 
     lone : printsAlone (refused x) ≡ only
     unfolding printsAlone
     lone = sym (tested ∙ ap alone numbered)
 
     pub partly-good : only ≡ false → (layoutChecks s ≡ result []) × (128 + 63 * heldIn s ≤ 16256)
-    partly-good follows = follows-good s short (ap printsAlone partly ∙ lone ∙ follows)
+    partly-good follows = follows-good s (ap printsAlone partly ∙ lone ∙ follows)
 
-    pub partly-leaves : (t : List ℕ) {most e : ℕ} → only ≡ false → Puts (listing s ++ lastLine (refused x)) most 0 o e t → left (result (e ∷ [])) t w ≡ listLeaves s out work
-    partly-leaves t follows puts = leaves-text (listing s ++ lastLine (refused x)) t (follows-printed s (refused x) partly (lone ∙ follows)) puts
+    pub partly-leaves : (new : List ℕ) {most e : ℕ} → only ≡ false → Puts (listing s ++ lastLine (refused x)) most 0 text e new → left (result (e ∷ [])) new w ≡ listLeaves s text work
+    partly-leaves new follows puts = leaves-text (listing s ++ lastLine (refused x)) new (follows-printed s (refused x) partly (lone ∙ follows)) puts
 
-    pub alone-leaves : (t : List ℕ) {most e : ℕ} → only ≡ true → Puts (lastLine (refused x)) most 0 o e t → left (result (e ∷ [])) t w ≡ listLeaves s out work
-    alone-leaves t stands puts = leaves-text (lastLine (refused x)) t (alone-printed s (refused x) partly (lone ∙ stands)) puts
+    pub alone-leaves : (new : List ℕ) {most e : ℕ} → only ≡ true → Puts (lastLine (refused x)) most 0 text e new → left (result (e ∷ [])) new w ≡ listLeaves s text work
+    alone-leaves new stands puts = leaves-text (lastLine (refused x)) new (alone-printed s (refused x) partly (lone ∙ stands)) puts
 
 -- the text lies inside what it is put into
 
@@ -216,9 +240,8 @@ abbrev shown : Answer → ℕ
 shown (result vs) = getD vs 0 0
 shown (refusal number place) = 0
 
-pub text-inside : (s out work t w : List ℕ) (e : ℕ) → left (result (e ∷ [])) t w ≡ listLeaves s out work → e ≤ length t
-text-inside s out work t w e leaves =
-    let text = printed s in
+pub text-inside : (s text work t w : List ℕ) (e : ℕ) → left (result (e ∷ [])) t w ≡ listLeaves s text work → e ≤ length t
+text-inside s text work t w e leaves =
     let lists = ap {A = Leaves} {B = List ℕ} (λ l. l .list) leaves in
     let answers = ap {A = Leaves} {B = ℕ} (λ l. shown (l .answer)) leaves in
-    omega (arith, answers, ap {A = List ℕ} {B = ℕ} length lists, length-append text (drop (length text) (readIfShort s out work .list)))
+    omega (arith, answers, ap {A = List ℕ} {B = ℕ} length lists, length-append (printed s) (drop (length (printed s)) text))

@@ -38,9 +38,9 @@ fn write_output(text: &[u8]) {
 // One byte more than is taken tells an input that is too long; L up to 24,576 and 8 * 256 numbers are what the program serves.
 fn main() {
     let mut input = [0u8; 24577];
-    let mut out = [0u8; 24576];
+    let mut text = [0u8; 16384];
     let mut work = [0u32; 2048];
     let got = read_input(&mut input);
-    let end = list(&input[0..got], &mut out, &mut work);
-    write_output(&out[0..end]);
+    let end = list(&input[0..got], &mut text, &mut work);
+    write_output(&text[0..end]);
 }

@@ -276,5 +276,5 @@ taken-more s b file cells after room o good h taken told done laid same more =
       long = omega (arith, same, taken .long);
       left = answer-on s good b h (taken .left) (sym told ∙ ap toldOutcome done);
       so-far = subst (λ (z : ℕ). take (2 * (kIn s * z)) after ≡ take (length after) (bytesBefore s z)) (sym (add-one b))
-      (more (ap toldOutcome done) (taken .so-far) ∙ ap (λ (m : ℕ). take m (bytesBefore s (suc b))) (sym same));
+          (more (ap toldOutcome done) (taken .so-far) ∙ ap (λ (m : ℕ). take m (bytesBefore s (suc b))) (sym same));
     }

@@ -56,5 +56,5 @@ read-blocks-spec =
     let start = c .before .before .before .before .before .before in (
       answer-ends (start .args .bundle .now) (start .pre .0) (l .b) (omega (arith, l .inv .0, c .before .before .blocks-in .ensures .0)) (omega (arith, c .loop-test .left, c .before .before .blocks-in .ensures .0)) (l .inv .2 .left),
       λ done. file-whole (start .args .bundle .now) (start .pre .0) (l .b) (l .file) (l .inv .2 .long) (omega (arith, l .inv .0, c .before .before .blocks-in .ensures .0)) (omega (arith, c .loop-test .left, c .before .before .blocks-in .ensures .0)) (l .inv .2 .so-far)
-      ∙ ap (λ (m : ℕ). take m (fileIn (start .args .bundle .now))) (l .inv .1),
+          ∙ ap (λ (m : ℕ). take m (fileIn (start .args .bundle .now))) (l .inv .1),
     )))

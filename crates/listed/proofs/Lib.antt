@@ -1,2 +1,4 @@
 pub mod Answering
 pub mod Tabling
+pub mod Examples
+pub mod Theorems

@@ -1,3 +1,4 @@
 pub mod Answers
 pub mod Listing
 pub mod Calls
+pub mod Theorems

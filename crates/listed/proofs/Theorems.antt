@@ -1,0 +1,25 @@
+-- The proofs of specs/Theorems.antt, each under its name there in small letters.
+-- Assumes nothing.
+use mathlib.Core.Path.{sym}
+use Rattle.listed.specs.Theorems.{ReaderAnswers, ServesExactly, ListedWhole, ListedAfter, P11Listed, EmptyListed}
+use Rattle.listed.proofs.Answering.{read-answers}
+use Rattle.listed.proofs.Examples as Examples
+use Rattle.listed.proofs.Refusing as Refusing
+
+pub reader-answers : ReaderAnswers
+reader-answers s out work short o w = sym (read-answers s out work short o w)
+
+pub serves-exactly : ServesExactly
+serves-exactly = Refusing.serves-exactly
+
+pub listed-whole : ListedWhole
+listed-whole = Refusing.listed-whole
+
+pub listed-after : ListedAfter
+listed-after = Refusing.listed-after
+
+pub p11-listed : P11Listed
+p11-listed = Examples.p11-listed
+
+pub empty-listed : EmptyListed
+empty-listed = Examples.empty-listed

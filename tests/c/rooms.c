@@ -11,6 +11,10 @@
 
 enum { LONGEST = 4096, LONGEST_FILE = 1048576, MOST_BLOCKS = 65535, HEADER = 16 };
 
+/* The header says the same limits. */
+_Static_assert(SULMIREJO_LONGEST == LONGEST && SULMIREJO_LONGEST_FILE == LONGEST_FILE && SULMIREJO_MOST_BLOCKS == MOST_BLOCKS, "limits");
+_Static_assert(SULMIREJO_MODULUS == 65537, "the modulus");
+
 /* Calls are tried with as many bytes at most, the largest of all apart from that: more would take long, and say nothing new. */
 enum { TRIED_BYTES = 50000 };
 

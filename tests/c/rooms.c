@@ -217,12 +217,6 @@ static void try_write_room(size_t k, size_t n, size_t length, size_t tried)
     try_writing(k, n, due.out, due.work - 1, SULMIREJO_ROOM);
 }
 
-static void put_number(uint8_t *at, size_t count, size_t number)
-{
-    for (size_t i = 0; i < count; i++)
-        at[i] = (uint8_t)(number >> 8 * (count - 1 - i));
-}
-
 /* A bundle that holds no shadow at all: its layout is good, and it is answered FEW where there is room. */
 static void lend_header(size_t k, size_t n, size_t length)
 {

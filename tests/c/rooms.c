@@ -11,6 +11,10 @@
 
 enum { LONGEST = 4096, LONGEST_FILE = 1048576, MOST_BLOCKS = 65535, HEADER = 16 };
 
+/* The header says the same limits. */
+_Static_assert(SULMIREJO_LONGEST == LONGEST && SULMIREJO_LONGEST_FILE == LONGEST_FILE && SULMIREJO_MOST_BLOCKS == MOST_BLOCKS, "limits");
+_Static_assert(SULMIREJO_MODULUS == 65537, "the modulus");
+
 /* Calls are tried with as many bytes at most, the largest of all apart from that: more would take long, and say nothing new. */
 enum { TRIED_BYTES = 50000 };
 
@@ -211,12 +215,6 @@ static void try_write_room(size_t k, size_t n, size_t length, size_t tried)
     try_writing(k, n, due.out, due.work, SULMIREJO_OK);
     try_writing(k, n, due.out - 1, due.work, SULMIREJO_ROOM);
     try_writing(k, n, due.out, due.work - 1, SULMIREJO_ROOM);
-}
-
-static void put_number(uint8_t *at, size_t count, size_t number)
-{
-    for (size_t i = 0; i < count; i++)
-        at[i] = (uint8_t)(number >> 8 * (count - 1 - i));
 }
 
 /* A bundle that holds no shadow at all: its layout is good, and it is answered FEW where there is room. */

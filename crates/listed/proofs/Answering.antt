@@ -240,8 +240,8 @@ abbrev shown : Answer → ℕ
 shown (result vs) = getD vs 0 0
 shown (refusal number place) = 0
 
-pub text-inside : (s text work t w : List ℕ) (e : ℕ) → left (result (e ∷ [])) t w ≡ listLeaves s text work → e ≤ length t
-text-inside s text work t w e leaves =
+pub text-inside : (s text t w v : List ℕ) (e : ℕ) → left (result (e ∷ [])) t w ≡ left (result (length (printed s) ∷ [])) (written (printed s) text) v → e ≤ length t
+text-inside s text t w v e leaves =
     let lists = ap {A = Leaves} {B = List ℕ} (λ l. l .list) leaves in
     let answers = ap {A = Leaves} {B = ℕ} (λ l. shown (l .answer)) leaves in
     omega (arith, answers, ap {A = List ℕ} {B = ℕ} length lists, length-append (printed s) (drop (length (printed s)) text))

@@ -1,13 +1,14 @@
 -- `listing::main` meets its contract: the buffers have the sizes that the work asks for, and the text lies inside the output.
 -- Assumes nothing.
 use borrow.Author.Needs.{needs}
-use Rattle.listed.specs.Answers.{mostN, mostLength}
+use Rattle.listed.specs.Answers.{mostN}
+use Rattle.listed.specs.Calls.{textRoom}
 use Rattle.listed.proofs.Answering.{text-inside}
 use Rattle.listing.proofs.main.Statement.{statement}
 use Rattle.listing.proofs.main.Tie as tie
 
 pub main-spec : {M : Type 1} → statement M
-unfolding mostN mostLength
+unfolding mostN textRoom
 main-spec =
     tie.close
     (tie.spec

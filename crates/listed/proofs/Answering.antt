@@ -236,7 +236,7 @@ module _ (s text work w : List ℕ) (m : ℕ) (same : m ≡ length work) (cleare
 
 -- the text lies inside what it is put into
 
-abbrev shown : Answer → ℕ
+abbrev pub shown : Answer → ℕ
 shown (result vs) = getD vs 0 0
 shown (refusal number place) = 0
 

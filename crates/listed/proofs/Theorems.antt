@@ -1,8 +1,11 @@
 -- The proofs of specs/Theorems.antt, each under its name there in small letters.
 -- Assumes nothing.
-use mathlib.Core.Path.{sym}
-use Rattle.listed.specs.Theorems.{ReaderAnswers, ServesExactly, ListedWhole, ListedAfter, P11Listed, EmptyListed}
-use Rattle.listed.proofs.Answering.{read-answers}
+use mathlib.Core.Path.{_≡_, sym, ap, _∙_}
+use mathlib.Core.List.{List}
+use Prim.Native.Nat.{ℕ}
+use Rattle.field.specs.Leaves.{Leaves}
+use Rattle.listed.specs.Theorems.{ReaderAnswers, ServesExactly, ListedWhole, ListedAfter, P11Listed, EmptyListed, ListSettled}
+use Rattle.listed.proofs.Answering.{shown, read-answers}
 use Rattle.listed.proofs.Examples as Examples
 use Rattle.listed.proofs.Refusing as Refusing
 
@@ -23,3 +26,8 @@ p11-listed = Examples.p11-listed
 
 pub empty-listed : EmptyListed
 empty-listed = Examples.empty-listed
+
+pub list-settled : ListSettled
+list-settled s text work e f t u w v first second =
+    let same = first ∙ sym second in
+    (ap {A = Leaves} {B = ℕ} (λ l. shown (l .answer)) same, ap {A = Leaves} {B = List ℕ} (λ l. l .list) same, ap {A = Leaves} {B = List ℕ} (λ l. l .work) same)

@@ -4,6 +4,7 @@ use mathlib.Core.List.{List, [], _∷_, _++_}
 use mathlib.Core.Logic.{_⊎_, _↔_}
 use Prim.Native.Nat.{ℕ, _*_, _<_, _≤_}
 use lib.ListN.{length}
+use Rattle.field.specs.Leaves.{left}
 use Rattle.field.specs.Refusals.{result, refusal, refused}
 use Rattle.field.specs.declared.refusal.Refusal.the-variants.{Room}
 use Rattle.layout.specs.Fields.{nIn, lengthIn}
@@ -13,6 +14,7 @@ use Rattle.bundle.specs.Worked.{bundle11}
 use Rattle.lines.specs.Lines.{lastLine}
 use Rattle.lines.specs.Text.{ascii}
 use Rattle.listed.specs.Answers.{mostInput, mostN, mostLength, programAnswer}
+use Rattle.listed.specs.Calls.{listLeaves}
 use Rattle.listed.specs.Listing.{listing, printed}
 
 -- "It serves n up to 256 and L up to 24,576; a larger n or L is answered ROOM where the reader tests ROOM": the program answers what the
@@ -55,3 +57,9 @@ P11Listed = printed bundle11 ≡ ascii "k 2 n 4 length 4 held 4 blocks 1\n0 48 0
 -- "as `REFUSED 11 0` for empty input"
 abbrev pub EmptyListed : Type 0
 EmptyListed = printed [] ≡ ascii "REFUSED 11 0\n"
+
+-- two outcomes of the work are equal: where the text ends, every byte of the memory lent for it, every cell of the working space
+abbrev pub ListSettled : Type 0
+ListSettled =
+    (s text work : List ℕ) (e f : ℕ) (t u w v : List ℕ) → left (result (e ∷ [])) t w ≡ listLeaves s text work
+    → left (result (f ∷ [])) u v ≡ listLeaves s text work → (e ≡ f) × (t ≡ u) × (w ≡ v)

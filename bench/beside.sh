@@ -1,7 +1,7 @@
 #!/usr/bin/env bash
 # beside.sh: the times of the library beside those of jerasure and par2 on the same file, for bench/run, which has built target/bench/timed
 # before. Here and in the programs a time is milliseconds of processor time, the best of three runs, or one run where it takes 5 s or more.
-# shellcheck disable=SC2154 # compiler and flags are set in bench/run
+# shellcheck disable=SC2154 # c is set in scripts/archive.sh
 
 # another coder that takes more seconds of processor time for a step is stopped, so that the whole takes about two minutes
 limit=${BENCH_LIMIT:-25}
@@ -34,11 +34,11 @@ time_row() { # WHO ENCODE DECODE
 
 jerasure_row() { # K N FILE
     local said
-    if ! echo '#include <jerasure.h>' | "$compiler" -E -isystem /usr/include/jerasure - >/dev/null 2>&1; then
+    if ! echo '#include <jerasure.h>' | "${c[@]}" -E -isystem /usr/include/jerasure - >/dev/null 2>&1; then
         leave_out "jerasure is missing: apt-get install libjerasure-dev"
         return
     fi
-    "$compiler" "${flags[@]}" -isystem /usr/include/jerasure -o target/bench/jerasure bench/jerasure.c -lJerasure -lgf_complete
+    "${c[@]}" -D_POSIX_C_SOURCE=200809L -isystem /usr/include/jerasure -o target/bench/jerasure bench/jerasure.c -lJerasure -lgf_complete
     said=$(target/bench/jerasure "$@" "$limit") || [ $? -gt 128 ] || fail 1 "bench/jerasure.c fails with k $1 and n $2"
     time_row jerasure "$(sed -n 's/^encode //p' <<<"$said")" "$(sed -n 's/^decode //p' <<<"$said")"
     made=$(sed -n 's/^matrix //p' <<<"$said")
@@ -64,6 +64,10 @@ par2_row() { # K N FILE
     cp "$3" "$place/file"
     find_time lose_the_parity par2 create -q -q -t1 "-s$size" "-c$(($2 - $1))" -n1 "$place/file.par2" "$place/file"
     encode=$ms
+    [ -n "$encode" ] || {
+        echo "par2 create takes more than $limit s: BENCH_LIMIT sets another limit"
+        return
+    }
     find_time lose_the_file par2 repair -q -q -t1 "$place/file.par2"
     [ -z "$ms" ] || cmp "$place/file" "$3"
     time_row par2 "$encode" "$ms"

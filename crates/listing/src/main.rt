@@ -1,5 +1,5 @@
-// Lists the bundle that comes on standard input. All that is decided stands in `listed`; here bytes are read and written. The three buffers are
-// nearly all of the 65,536 bytes that the program may take, so reads and writes go by parts of them and not by way of another buffer.
+// Lists the bundle that comes on standard input. All that is decided stands in `listed`; here bytes are read and written. Reads and writes go by
+// parts of the buffers themselves, because the program may take 65,536 bytes in all and a copy would add to its stack.
 use libc::STDIN_FILENO;
 use libc::STDOUT_FILENO;
 use listed::inner::list;
@@ -35,7 +35,7 @@ fn write_output(text: &[u8]) {
     }
 }
 
-// One byte more than is taken tells an input that is too long; L up to 24,576 and 8 * 256 numbers are what the program serves.
+// One byte more than the program takes tells an input that is too long; 8 * 256 numbers are the working space of the largest n it serves.
 fn main() {
     let mut input = [0u8; 24577];
     let mut text = [0u8; 16384];

@@ -1,6 +1,6 @@
 -- The lines as their pieces come: words with their numbers, one behind the other.
 -- Assumes nothing.
-use mathlib.Core.Path.{_≡_, refl, ap, ap₂, _∙_}
+use mathlib.Core.Path.{_≡_, refl, ap₂, _∙_}
 use mathlib.Core.List.{List, _++_, append-assoc}
 use Prim.Native.Nat.{ℕ}
 use Rattle.field.specs.Refusals.{numberOf, placeOf, refused}

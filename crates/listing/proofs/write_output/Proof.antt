@@ -1,6 +1,5 @@
 -- `listing::write_output` meets its contract: each write takes some of what is left.
 -- Assumes nothing.
-use mathlib.Core.Path.{_≡_}
 use Prim.Native.Nat.{_-_, _≤_}
 use borrow.Author.Needs.{needs}
 use lib.ListN.{length}

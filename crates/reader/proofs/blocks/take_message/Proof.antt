@@ -1,11 +1,10 @@
 -- `reader::blocks::take_message` meets its contract: WORD before TAIL, and the bytes of a message that passes both.
 -- Assumes nothing.
 use mathlib.Core.Path.{_≡_, sym, ap, ap₂, _∙_}
-use mathlib.Core.List.{List, [], _++_}
+use mathlib.Core.List.{List, []}
 use Prim.Native.Nat.{ℕ, _*_, _-_, _<_}
 use native.Mathlib.Omega.{arith}
 use borrow.Author.Needs.{needs}
-use lib.ListN.{take}
 use Rattle.field.specs.Refusals.{result}
 use Rattle.field.specs.declared.refusal.Refusal.the-variants.{Word, Tail}
 use Rattle.storage.specs.Blocks.{longestFile}

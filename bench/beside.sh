@@ -1,10 +1,13 @@
-#!/usr/bin/env bash
 # beside.sh: the times of the library beside those of jerasure and par2 on the same file, for bench/run, which has built target/bench/timed
 # before. Here and in the programs a time is milliseconds of processor time, the best of three runs, or one run where it takes 5 s or more.
-# shellcheck disable=SC2154 # c is set in scripts/archive.sh
+# shellcheck shell=bash disable=SC2154 # c is set in scripts/archive.sh
 
 # another coder that takes more seconds of processor time for a step is stopped, so that the whole takes about two minutes
 limit=${BENCH_LIMIT:-25}
+[[ $limit =~ ^[1-9][0-9]{0,5}$ ]] || {
+    echo "BENCH_LIMIT is $limit: it has to be a whole number of seconds" >&2
+    exit 2
+}
 
 # Sets `ms` to the time of a command, or to nothing where the limit stops it.
 find_time() { # BEFORE COMMAND ARG..: BEFORE is called before each run

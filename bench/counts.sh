@@ -1,5 +1,5 @@
-#!/usr/bin/env bash
 # counts.sh: the tables of instruction counts, for bench/run, which has built target/bench/calls before.
+# shellcheck shell=bash
 
 declare -A costs
 

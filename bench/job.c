@@ -1,5 +1,6 @@
 /* The counted and timed calls, what they are lent and what is due: see job.h. What is due comes from the second coder of the C tests, or is
- * what was encoded; nothing of it is worked out during the call. */
+ * what was encoded; of a bundle the layout is the second coder's and the symbols are encode's, which is held against the second coder in the
+ * tests. Nothing of it is worked out during the call. */
 #include "job.h"
 
 #include "lent.h"

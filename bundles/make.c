@@ -7,8 +7,8 @@
 #include <stdlib.h>
 #include <string.h>
 
-/* The longest file, and what the listing program serves: bytes of a bundle, n, bytes of a file. */
-enum { LONGEST_FILE = 1048576, BUNDLE_SERVED = 24576, N_SERVED = 256, FILE_SERVED = 24576 };
+/* What the listing program serves: bytes of a bundle, n, bytes of a file. */
+enum { BUNDLE_SERVED = 24576, N_SERVED = 256, FILE_SERVED = 24576 };
 
 static void *find_memory(size_t count, size_t size)
 {
@@ -33,7 +33,7 @@ static size_t read_file(const char *path, uint8_t *file)
 {
     FILE *stream = fopen(path, "rb");
     if (stream != NULL) {
-        const size_t length = fread(file, 1, LONGEST_FILE + 1, stream);
+        const size_t length = fread(file, 1, SULMIREJO_LONGEST_FILE + 1, stream);
         if (!ferror(stream)) {
             fclose(stream);
             return length;
@@ -57,11 +57,11 @@ static const char *what_to_change(size_t k, size_t n, size_t length)
 {
     if (k == 0)
         return "K is 0: take 1 or more";
-    if (n > 4096)
+    if (n > SULMIREJO_LONGEST)
         return "N is above 4096: take 4096 or less";
     if (k > n)
         return "K is above N: take a K up to N";
-    if (length > LONGEST_FILE)
+    if (length > SULMIREJO_LONGEST_FILE)
         return "the file is longer than 1,048,576 bytes: cut it in parts";
     return "the file makes more than 65,535 blocks of 2K bytes: take a larger K";
 }
@@ -83,7 +83,7 @@ int main(int count, char **words)
         fprintf(stderr, "usage: make K N FILE BUNDLE, K and N being whole numbers\n");
         return 2;
     }
-    uint8_t *file = find_memory(LONGEST_FILE + 1, 1);
+    uint8_t *file = find_memory(SULMIREJO_LONGEST_FILE + 1, 1);
     const size_t length = read_file(words[3], file);
     if (sulmirejo_write_room(k, n, length, &room, &work_room, &number) != SULMIREJO_OK) {
         fprintf(stderr, "no bundle is made: %s\n", what_to_change(k, n, length));

@@ -68,7 +68,11 @@ static void expect_answer(const char *what, size_t size, uint32_t status, uint32
 {
     long at = 0;
     expect(status == due, what, size, status);
-    if (due != SULMIREJO_OK) {
+    expect(number_guards_hold(), what, size, 0);
+    if (due == SULMIREJO_OK) {
+        expect_untouched_after(&out, out.room, what);
+        expect_untouched_after(&work, work.room, what);
+    } else {
         expect(holds_its_due(&out, &at), what, size, (size_t)at);
         expect(holds_its_due(&work, &at), what, size, (size_t)at);
     }
@@ -171,8 +175,9 @@ static void expect_bytes_answer(const char *what, size_t size, uint32_t status, 
 {
     long at = 0;
     expect_answer(what, size, status, due);
-    if (due != SULMIREJO_OK)
-        expect(bytes_hold_their_due(&bytes, &at), what, size, (size_t)at);
+    if (due == SULMIREJO_OK) /* what is written is another program's matter: here the guards are */
+        memcpy(due_bytes_of(&bytes), lend_bytes(&bytes), bytes.room);
+    expect(bytes_hold_their_due(&bytes, &at), what, size, (size_t)at);
 }
 
 static void try_writing(size_t k, size_t n, size_t count, size_t spaces, uint32_t due)

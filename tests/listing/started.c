@@ -74,8 +74,8 @@ static void wait_for_end(pid_t program)
 {
     int status;
     must(waitpid(program, &status, 0) == program, "waitpid");
-    if (WIFSIGNALED(status) || WEXITSTATUS(status) == 127) {
-        printf("FAILED: %s could not be started, crashed, or took more than %d seconds: status %d\n", command[0], MOST_SECONDS, status);
+    if (WIFSIGNALED(status) || WEXITSTATUS(status) != 0) {
+        printf("FAILED: %s could not be started, did not end well, or took more than %d seconds: status %d\n", command[0], MOST_SECONDS, status);
         exit(1);
     }
 }
@@ -167,19 +167,21 @@ static size_t fill(const int *ends)
 }
 
 /* Waits until something stands behind the filling, and a little longer, so that the next piece waits too; then stops the program and lets it go
- * on, which wakes it in the middle of its call. */
-static void wake_in_the_middle(pid_t program, int from, size_t filled)
+ * on, which wakes it in the middle of its call. Gives how many bytes stood behind the filling by then. */
+static size_t wake_in_the_middle(pid_t program, int from, size_t filled)
 {
     siginfo_t happened;
     int there = 0;
-    for (int tries = 0; tries < 1000 && (size_t)there <= filled; tries++) {
+    for (int tries = 0; tries < 4000 && (size_t)there <= filled; tries++) {
         wait_a_while(2000);
         must(ioctl(from, FIONREAD, &there) == 0, "ioctl");
     }
     wait_a_while(50000);
     must(kill(program, SIGSTOP) == 0, "stop");
     must(waitid(P_PID, (id_t)program, &happened, WSTOPPED | WEXITED | WNOWAIT) == 0, "waitid");
+    must(ioctl(from, FIONREAD, &there) == 0, "ioctl");
     must(kill(program, SIGCONT) == 0, "continue");
+    return (size_t)there - filled;
 }
 
 const struct printed *print_to_slow_reader(const uint8_t *input, size_t length)
@@ -187,17 +189,21 @@ const struct printed *print_to_slow_reader(const uint8_t *input, size_t length)
     const int least_room = 1;
     char filling;
     int ends[2];
-    size_t filled;
+    size_t filled, first;
     pid_t program;
     must(socketpair(AF_UNIX, SOCK_STREAM | SOCK_CLOEXEC, 0, ends) == 0, "socketpair");
     must(setsockopt(ends[1], SOL_SOCKET, SO_SNDBUF, &least_room, sizeof least_room) == 0, "setsockopt");
     filled = fill(ends);
     program = start(file_of(input, length), ends[1]);
     close(ends[1]);
-    wake_in_the_middle(program, ends[0], filled);
+    first = wake_in_the_middle(program, ends[0], filled);
     for (; filled > 0; filled--)
         must(read(ends[0], &filling, 1) == 1, "the filling");
     collect(ends[0]);
     wait_for_end(program);
+    if (first == 0 || first >= printed.length) {
+        printf("FAILED: no write was cut short: of %zu bytes %zu came before the program was woken\n", printed.length, first);
+        exit(1);
+    }
     return &printed;
 }

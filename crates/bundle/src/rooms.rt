@@ -1,4 +1,4 @@
-// Room needed, worked out in one place for the checks and for the work. No entry points: the crate above reaches them through `inner`.
+// Room needed, worked out in one place for the checks and for the work. No entry points: the crates above reach them through `inner`.
 use field::inner::size;
 ghost use mathlib.Core.Path.{_≡_};
 ghost use Prim.Native.Nat.{_≤_};

@@ -9,7 +9,7 @@ use native.Mathlib.Omega.{arith}
 use borrow.Author.Tests.{lt-ltb, le-ltb, ltb-false}
 use lib.Dec.{ltb}
 use lib.ListN.{length, getD, drop, replicate, length-append}
-use Rattle.field.specs.Leaves.{Leaves, left, unlessRefused, written}
+use Rattle.field.specs.Leaves.{Leaves, left, written}
 use Rattle.field.specs.Refusals.{Answer, result, refusal, numberOf, refused, refuseIf, toldOutcome}
 use Rattle.field.specs.Shape.{longest}
 use Rattle.field.specs.Size.{sizeOf}
@@ -26,29 +26,15 @@ use Rattle.layout.specs.Rooms.{workRoom}
 use Rattle.layout.proofs.Passing.{n-limited, held-few}
 use Rattle.reader.specs.Reading.{blocksAnswer}
 use Rattle.storage.specs.Blocks.{badBundleShape}
-use Rattle.bundle.specs.Calls.{blocksLeave, readLeaves}
+use Rattle.bundle.specs.Calls.{readLeaves}
 use Rattle.bundle.specs.Checks.{roomChecks, readChecks}
+use Rattle.bundle.proofs.Walking.{read-answer}
 use Rattle.lines.specs.Lines.{lastLine}
 use Rattle.lines.specs.Puts.{Puts}
 use Rattle.lines.proofs.Putting.{puts-written}
 use Rattle.listed.specs.Answers.{mostInput, mostN, mostLength, servedAnswer, programAnswer}
 use Rattle.listed.specs.Calls.{listLeaves}
 use Rattle.listed.specs.Listing.{listing, alone, printsAlone, printed}
-
--- The reader's answer
-
-blocks-told : (a : Answer) (s out work : List ℕ) → blocksLeave a s out work .answer ≡ a
-blocks-told (result vs) s out work = refl
-blocks-told (refusal number place) s out work = refl
-
-unless-told : (a : Answer) (out work : List ℕ) (later : Leaves) → unlessRefused a out work later .answer ≡ after a (later .answer)
-unless-told (result vs) out work later = refl
-unless-told (refusal number place) out work later = refl
-
-read-told : (s out work : List ℕ) → readLeaves s out work .answer ≡ after (readChecks s (length out) (length work)) (blocksAnswer s 0 (blocksIn s))
-read-told s out work =
-    unless-told (readChecks s (length out) (length work)) out work _
-    ∙ ap (after (readChecks s (length out) (length work))) (blocks-told (blocksAnswer s 0 (blocksIn s)) s out work)
 
 -- With an output of 24,576 bytes and a working space of 8 * 256 numbers
 
@@ -119,7 +105,7 @@ pub read-answers : (s out work : List ℕ) → length s ≤ mostInput → length
     → readLeaves s out work .answer ≡ programAnswer s
 unfolding readChecks
 read-answers s out work short o w =
-    read-told s out work
+    read-answer s out work
     ∙ ap₂ (λ (room cells : ℕ). after (after (layoutChecks s) (roomChecks s room cells)) (blocksAnswer s 0 (blocksIn s))) o w
     ∙ after-after (layoutChecks s) (roomChecks s mostLength (8 * mostN)) (blocksAnswer s 0 (blocksIn s))
     ∙ layout-same s _ _ (served-checks s)

@@ -1,4 +1,4 @@
-// What the program answers to its input. No entry points and for this crate alone: `list` has made sure of the working space.
+// What the program answers to its input. No entry points and for this crate alone: `list` asks its caller for the working space.
 use bundle::inner::work_room;
 use field::Outcome;
 use field::Refusal;

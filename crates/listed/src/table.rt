@@ -1,4 +1,4 @@
-// The header and the table of a bundle as text. No entry points and for this crate alone: the reader has tested the layout.
+// The header and the table of a bundle as text. No entry points and for this crate alone: `judge` has tested the layout.
 use layout::inner::blocks_in;
 use layout::inner::count_in;
 use layout::inner::held_in;

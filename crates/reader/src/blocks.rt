@@ -1,6 +1,6 @@
 // Reading a bundle whose layout is good, block by block. Of the 8N cells of working space decoding takes the first 4N as room, the values from 4N on
-// and the positions from 6N on; the cursors of the overflow lists stand from 5N on. No entry points: the entry point
-// has made the checks, and reaches what it needs in `inner`.
+// and the positions from 6N on; the cursors of the overflow lists stand from 5N on. No entry points: the callers
+// have made the checks, and reach what they need in `inner`.
 use crate::bytes::bad_bytes;
 use crate::bytes::bad_word;
 use crate::bytes::lay_bytes;

@@ -33,8 +33,9 @@ use Rattle.layout.specs.Layout.{layoutChecks}
 use Rattle.layout.specs.Rooms.{writeRoom, workRoom}
 use Rattle.reader.specs.Reading.{badWord, badTail, blockAnswer, blocksAnswer, decodedAt}
 use Rattle.reader.specs.Reading as Reading
-use Rattle.bundle.specs.Calls.{blocksLeave, writeLeaves, readLeaves}
+use Rattle.bundle.specs.Calls.{writeLeaves, readLeaves}
 use Rattle.bundle.specs.Checks.{writeChecks, roomChecks, readChecks}
+use Rattle.bundle.proofs.Walking.{read-answer}
 use Rattle.rooms.specs.Rooms.{transformRoomAnswer, encodeRoomAnswer, decodeRoomAnswer, writeRoomAnswer, readRoomAnswer}
 use Rattle.rooms.specs.Theorems.{AsksFor}
 
@@ -218,18 +219,12 @@ blocks-other s b zero = result-no-refusal
 blocks-other s b (suc left) =
     other-after (blockAnswer s b) (judged-other (kIn s) (lengthIn s) b (decodedAt s b)) (blocks-other s (suc b) left)
 
-blocks-answer : (a : Answer) (s out work : List ℕ) → blocksLeave a s out work .answer ≡ a
-blocks-answer (refusal number place) s out work = refl
-blocks-answer (result vs) s out work = refl
-
 pub read-asks : (bundle : List ℕ) → AsksFor (readRoomAnswer bundle) (refused Room) (readLeaves bundle)
 unfolding readRoomAnswer readChecks roomChecks
 read-asks bundle =
     let answer = blocksAnswer bundle 0 (blocksIn bundle) in
     asks-for (layoutChecks bundle) (result []) _ (lengthIn bundle) (workRoom (nIn bundle)) _ _ (readChecks bundle) (λ out work. answer) _ refl refl
     (λ out work. refl)
-    (λ out work.
-    unless (readChecks bundle (length out) (length work)) out work _
-    ∙ ap (after (readChecks bundle (length out) (length work))) (blocks-answer answer bundle out work))
+    (λ out work. read-answer bundle out work)
     result-no-refusal (other-if (ltb (heldIn bundle) (kIn bundle)) Few refl result-no-refusal)
     (λ out work. blocks-other bundle 0 (blocksIn bundle))

@@ -31,7 +31,7 @@ use Rattle.code.specs.Ready.{Ready}
 use Rattle.code.proofs.Meeting.{message-polynomial, message-of, polynomial-long, polynomial-symbols}
 use Rattle.code.proofs.Points.{points-length, points-at, points-apart}
 
-symbol-≈ : (n : ℕ) (s : List ℕ) (p : ℕ) → symbolOf n s p ≈ value (polynomialOf s) (pointOf (sizeOf n) p)
+pub symbol-≈ : (n : ℕ) (s : List ℕ) (p : ℕ) → symbolOf n s p ≈ value (polynomialOf s) (pointOf (sizeOf n) p)
 unfolding symbolOf
 symbol-≈ n s p = mod-≈ _
 

@@ -2,7 +2,7 @@
 -- Assumes nothing.
 use mathlib.Core.Path.{_≡_}
 use mathlib.Core.Bool.{false, _||_}
-use Prim.Native.Nat.{ℕ, _<_, _≤_}
+use Prim.Native.Nat.{ℕ, _^_, _<_, _≤_}
 use native.Mathlib.Omega.{arith}
 use borrow.Author.Tests.{ltb-false, eqb-false}
 use lib.Dec.{ltb, eqb, lit≤}
@@ -12,6 +12,11 @@ use Rattle.field.proofs.Checks.{or-false}
 pub longest-le : longest ≤ 65536
 unfolding longest
 longest-le = lit≤ tt
+
+-- and so has twice its length
+pub longest-twice : longest ≤ 2 ^ 15
+unfolding longest
+longest-twice = lit≤ tt
 
 pub shape-good : (k n : ℕ) → badShape k n ≡ false → (0 < k) × (k ≤ n) × (n ≤ longest)
 unfolding badShape

@@ -37,7 +37,7 @@ not-zero r (suc n) some full none =
     absurd (omega (arith, (≈-sym full ∘≈ ≈-of (pow-suc r n) ∘≈ r ^ n ·≈ none ∘≈ ≈-of {b = 0} (omega arith)) .mods))
 
 -- the other way round
-flipped : {r q n : ℕ} → Opposite r q n → Opposite q r n
+pub flipped : {r q n : ℕ} → Opposite r q n → Opposite q r n
 flipped {r} {q} {n} o =
     record {
       full = o .full';
@@ -89,7 +89,7 @@ unfolding inverseOf
 inverse-length a = tab-length (length a) _
 
 -- a factor on every number is a factor on the value
-scaled-value : (c n : ℕ) (s : List ℕ) (x : ℕ) → length s ≡ n → value (tab n (λ j. product c (getD s j 0))) x ≈ c * value s x
+pub scaled-value : (c n : ℕ) (s : List ℕ) (x : ℕ) → length s ≡ n → value (tab n (λ j. product c (getD s j 0))) x ≈ c * value s x
 scaled-value c n s x e =
     ≈-of (value-tab n _ x)
     ∘≈ total-≈ n _ (λ j. c * (getD s j 0 * x ^ j)) (λ j h. mul-≈ (product-≈ c (getD s j 0)) ≈-refl ∘≈ ≈-of (omega arith))

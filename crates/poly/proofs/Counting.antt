@@ -22,7 +22,7 @@ cancel x y c apart same =
     no-divisors (y + 65536 * x) c (comb (≈-sym same) 0 (x * c) (omega arith)) (λ e. apart (comb e x 0 (omega arith)))
 
 -- a zero apart from x is a zero of the quotient by X - x
-quotient-root : (a : ℕ) (s : List ℕ) (x y : ℕ) → value (a ∷ s) x ≈ 0 → ¬ (y ≈ x) → value (a ∷ s) y ≈ 0
+pub quotient-root : (a : ℕ) (s : List ℕ) (x y : ℕ) → value (a ∷ s) x ≈ 0 → ¬ (y ≈ x) → value (a ∷ s) y ≈ 0
     → value (quotient a s x) y ≈ 0
 quotient-root a s x y zero-x apart zero-y =
     cancel x y (value (quotient a s x) y) apart (comb (zero-x +≈ ≈-sym zero-y) 0 0 (omega (arith, divided a s x y)))

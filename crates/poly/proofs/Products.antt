@@ -51,7 +51,7 @@ vanishing-symbols zs = times-symbols (1 ∷ []) zs one-symbol
 -- The value of a product
 
 -- one factor more: the value times x - z
-times-value : (f zs : List ℕ) (z x : ℕ) → value (times f (z ∷ zs)) x + z * value (times f zs) x ≈ x * value (times f zs) x
+pub times-value : (f zs : List ℕ) (z x : ℕ) → value (times f (z ∷ zs)) x + z * value (times f zs) x ≈ x * value (times f zs) x
 unfolding times
 times-value f zs z x = raised-value z 0 (times f zs) x ∘≈ ≈-of (omega arith)
 

@@ -1,9 +1,9 @@
 -- The laws of a polynomial's value: the plain sum, the split into even and odd places, and one step of Horner's rule as a loop takes it.
 -- Assumes nothing.
-use mathlib.Core.Path.{_≡_, refl, ap, _∙_}
+use mathlib.Core.Path.{_≡_, refl, sym, ap, _∙_}
 use mathlib.Core.List.{List, [], _∷_, _++_}
-use Prim.Native.Nat.{ℕ, zero, suc, _+_, _*_, _^_, _%_, _<_, _≤_}
-use native.Mathlib.Nat.{pow-suc, pow-zero}
+use Prim.Native.Nat.{ℕ, zero, suc, _+_, _*_, _^_, _%_, _<_, _≤_, suc-le-suc}
+use native.Mathlib.Nat.{pow-suc, pow-zero, zero-mul, zero-lt-suc, le-of-suc-le-suc, not-suc-le-zero}
 use native.Mathlib.Omega.{arith}
 use lib.ListN.{length, getD, take, drop, replicate, length-drop}
 use lib.Seq.{drop-cons, length-take-le, getD-take, getD-drop}
@@ -13,7 +13,7 @@ use Rattle.poly.specs.Parts.{evens, odds}
 use Rattle.poly.specs.Sum.{total}
 use Rattle.poly.specs.Tab.{tab}
 use Rattle.poly.specs.Value.{value}
-use Rattle.poly.proofs.Sum.{total-ext, total-scale}
+use Rattle.poly.proofs.Sum.{total-ext, total-scale, total-zero}
 use Rattle.poly.proofs.Tab.{tab-length, tab-at, with-last}
 
 pub plain-sum : (s : List ℕ) (x : ℕ) → value s x ≡ total (length s) (λ i. getD s i 0 * x ^ i)
@@ -76,3 +76,27 @@ value-last n s x size none =
     ap (λ (l : List ℕ). value l x) (with-last s n size)
     ∙ value-append (take n s) (getD s n 0 ∷ []) x
     ∙ rw none (omega arith)
+
+-- the plain sum over more indices than there are coefficients
+pub longer-sum : (n : ℕ) (s : List ℕ) (x : ℕ) → length s ≤ n → value s x ≡ total n (λ i. getD s i 0 * x ^ i)
+unfolding value total
+longer-sum n [] x h = sym (total-ext n (λ i. 0 * x ^ i) (λ i. 0) (λ i l. zero-mul (x ^ i)) ∙ total-zero n)
+longer-sum zero (a ∷ s) x h = absurd (not-suc-le-zero h)
+longer-sum (suc n) (a ∷ s) x h =
+    omega (
+      arith,
+      ap (a *_) (pow-zero x),
+      ap (x *_) (longer-sum n s x (le-of-suc-le-suc h)),
+      total-scale n (λ i. getD s i 0 * x ^ i) x,
+      total-ext n (λ i. x * (getD s i 0 * x ^ i)) (λ i. getD s i 0 * x ^ suc i) (λ i l. rw pow-suc (omega arith)),
+    )
+
+-- coefficients 0 from an index on may be left out
+pub value-front : (c : ℕ) (s : List ℕ) (x : ℕ) → ((i : ℕ) → c ≤ i → i < length s → getD s i 0 ≡ 0) → value s x ≡ value (take c s) x
+unfolding value
+value-front zero [] x none = refl
+value-front (suc c) [] x none = refl
+value-front zero (a ∷ s) x none =
+    omega (arith, none 0 (omega arith) (zero-lt-suc _), ap (x *_) (value-front zero s x (λ i l m. none (suc i) (omega arith) (suc-le-suc m))))
+value-front (suc c) (a ∷ s) x none =
+    omega (arith, ap (x *_) (value-front c s x (λ i l m. none (suc i) (suc-le-suc l) (suc-le-suc m))))

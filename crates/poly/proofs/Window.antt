@@ -7,7 +7,7 @@ use Prim.Native.Nat.{ℕ, suc, _+_, _-_, _<_, _≤_}
 use native.Mathlib.Nat.{zero-add}
 use native.Mathlib.Omega.{arith}
 use lib.ListN.{length, getD, take, drop, set, length-append, length-take, length-drop, take-append-drop, drop-of-length-le, List·getD-append}
-use lib.Seq.{take-at, length-take-le, drop-cons, set-at, set-append-left, take-set-lt, drop-set-lt, getD-append-add, getD-drop, getD-take}
+use lib.Seq.{take-at, drop-append-add, drop-drop, length-take-le, drop-cons, set-at, set-append-left, take-set-lt, drop-set-lt, getD-append-add, getD-drop, getD-take}
 use Rattle.poly.specs.Tab.{tab}
 use Rattle.poly.proofs.Tab.{tab-length, tab-at, tab-more}
 
@@ -86,3 +86,17 @@ pub window-change : (g : ℕ → ℕ) (i : ℕ) (d e : List ℕ) (v : ℕ) → i
 window-change g i d e v h is new =
     window-store 0 i i (λ j. g (getD d j 0)) d e v (sym (zero-add i)) h is
     (new ∙ ap g (ap (λ (l : List ℕ). getD l i 0) is ∙ window-past 0 i i (λ j. g (getD d j 0)) d (omega arith) (omega arith)))
+
+-- what stands before a window, and what from a place behind it on
+pub window-lead : (at n : ℕ) (f : ℕ → ℕ) (d : List ℕ) → at ≤ length d → take at (window at n f d) ≡ take at d
+unfolding window
+window-lead at n f d h = take-at (take at d) _ at (length-take-le at d h)
+
+pub window-rest : (at n m : ℕ) (f : ℕ → ℕ) (d : List ℕ) → at ≤ length d → at + n ≤ m → drop m (window at n f d) ≡ drop m d
+unfolding window
+window-rest at n m f d h l =
+    ap (drop m) (sym (append-assoc (take at d) (tab n f) (drop (at + n) d)))
+    ∙ ap (λ (x : ℕ). drop x ((take at d ++ tab n f) ++ drop (at + n) d)) {x = m} {y = length (take at d ++ tab n f) + (m - (at + n))} (omega (arith, front-length at n f d h))
+    ∙ drop-append-add (take at d ++ tab n f) (drop (at + n) d) (m - (at + n))
+    ∙ drop-drop (m - (at + n)) (at + n) d
+    ∙ ap (λ (x : ℕ). drop x d) {x = at + n + (m - (at + n))} {y = m} (omega arith)

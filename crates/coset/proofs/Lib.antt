@@ -1,0 +1,4 @@
+pub mod Grid
+pub mod Between
+pub mod Room
+pub mod Folding

@@ -1,0 +1,2 @@
+pub mod Between
+pub mod Room

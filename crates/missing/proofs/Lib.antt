@@ -1,0 +1,3 @@
+pub mod Unmarked
+pub mod Fitting
+pub mod Laying

@@ -46,7 +46,7 @@ fn exchange(list: &mut [u32], i: usize, j: usize)
     }
 }
 
-fn arrange(list: &mut [u32])
+pub fn arrange(list: &mut [u32])
     requires { ⌜ length (now list) ≡ sizeOf (length (now list)) ⌝ }
     ensures { λ _. ⌜ now (list .exit) ≡ arranged (now (list .entry)) ⌝ }
 {

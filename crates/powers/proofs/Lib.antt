@@ -1,0 +1,4 @@
+pub mod Part
+pub mod Turns
+pub mod Halves
+pub mod Steps

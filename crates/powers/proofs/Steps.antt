@@ -1,21 +1,25 @@
--- The steps of the code, one after the other, on the part of a slice: arranged and halved it is the transform.
+-- The steps of the code, one after the other, on the part of a slice: arranged and halved it is the transform, and turned round the way back.
 -- Assumes nothing.
 use mathlib.Core.Path.{_≡_, sym, ap, subst, _∙_}
 use mathlib.Core.List.{List, _++_}
 use Prim.Native.Nat.{ℕ, _+_, _-_, _≤_}
 use native.Mathlib.Omega.{arith}
 use lib.ListN.{length, take, drop}
+use Rattle.field.specs.Field.{inverse}
 use Rattle.field.specs.Points.{rootOf}
 use Rattle.field.specs.Size.{levelOf}
 use Rattle.halving.specs.InPlace.{halved}
 use Rattle.halving.specs.Order.{arranged}
 use Rattle.halving.specs.Ready.{Ready}
-use Rattle.halving.specs.Transform.{transformOf}
+use Rattle.halving.specs.Transform.{sums, transformOf}
 use Rattle.halving.proofs.Steps.{arranged-length, arranged-ready, transform-steps}
+use Rattle.halving.proofs.Undo.{transform-length}
 use Rattle.powers.specs.Part.{part, replaced}
+use Rattle.powers.specs.Round.{turnedRound}
 use Rattle.powers.specs.Turns.{Tabled}
 use Rattle.powers.proofs.Turns.{tabled-kept}
 use Rattle.powers.proofs.Part.{part-length, replaced-part, replaced-twice, lent-part, returned-part}
+use Rattle.powers.proofs.Round.{sums-back}
 
 -- the part as it is lent, and the slice when it comes back as s
 abbrev lent : ℕ → ℕ → List ℕ → List ℕ
@@ -68,3 +72,20 @@ module _ (c : List ℕ) (at size table step : ℕ) (tabled : Tabled c at size ta
         ∙ ap (replaced at size c)
         (ap (halved (levelOf size) (rootOf size)) (replaced-part at size c inside s s-long)
         ∙ transform-steps d d-ready (rootOf size) s (halved (levelOf size) (rootOf size) s) (ap rootOf (sym d-long)) s-is (ap (λ (n : ℕ). halved (levelOf n) (rootOf size) s) (sym s-long)))
+
+  -- t is the slice with the part transformed, and u that part turned round
+  pub turned-back : (t u : List ℕ) → t ≡ replaced at size c (transformOf (part at size c)) → u ≡ turnedRound (lent at size t)
+      → returned at size t u ≡ replaced at size c (sums (inverse (rootOf size)) (part at size c))
+  unfolding d
+  turned-back t u one two =
+      returned-part at size t u
+      ∙ ap (λ (l : List ℕ). replaced at size l u) one
+      ∙ replaced-twice at size c inside (transformOf d) long u
+      ∙ ap (replaced at size c)
+      (two
+      ∙ ap turnedRound (lent-part at size t ∙ ap (part at size) one ∙ replaced-part at size c inside (transformOf d) long)
+      ∙ sym (sums-back d d-ready)
+      ∙ ap (λ (n : ℕ). sums (inverse (rootOf n)) d) d-long)
+    where
+      long : length (transformOf d) ≡ size
+      long = transform-length d ∙ d-long

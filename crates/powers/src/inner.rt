@@ -4,16 +4,18 @@ use field::inner::difference;
 use field::inner::product;
 use field::inner::sum;
 use halving::inner::arrange;
+use halving::inner::exchange;
 ghost use mathlib.Core.Path.{_≡_};
 ghost use Prim.Native.Nat.{_+_};
 ghost use lib.ListN.{length};
-ghost use Rattle.field.specs.Field.{power};
+ghost use Rattle.field.specs.Field.{power, inverse};
 ghost use Rattle.field.specs.Points.{rootOf};
 ghost use Rattle.field.specs.Size.{levelOf};
 ghost use Rattle.poly.specs.Tab.{tab};
 ghost use Rattle.halving.specs.InPlace.{joinedHalves, halved};
-ghost use Rattle.halving.specs.Transform.{transformOf};
+ghost use Rattle.halving.specs.Transform.{sums, transformOf};
 ghost use Rattle.powers.specs.Part.{part, replaced};
+ghost use Rattle.powers.specs.Round.{turnedRound};
 ghost use Rattle.powers.specs.Turns.{Tabled};
 
 pub fn lay_powers(root: u32, cells: &mut [u32])
@@ -72,4 +74,26 @@ pub fn transform_by(cells: &mut [u32], at: usize, size: usize, table: usize, ste
     let end = at + size;
     arrange(&mut cells[at..end]);
     halve_by(cells, at, size, table, step);
+}
+
+fn turn_round(list: &mut [u32])
+    ensures { λ _. ⌜ now (list .exit) ≡ turnedRound (now (list .entry)) ⌝ }
+{
+    let mut low = 1;
+    let mut high = list.len();
+    while low < high {
+        high -= 1;
+        exchange(list, low, high);
+        low += 1;
+    }
+}
+
+// The sums at the root's inverse, with no division by N: they are those at the root, turned round.
+pub fn back_by(cells: &mut [u32], at: usize, size: usize, table: usize, step: usize)
+    requires { ⌜ Tabled (now cells) at size table step ⌝ }
+    ensures { λ _. ⌜ now (cells .exit) ≡ replaced at size (now (cells .entry)) (sums (inverse (rootOf size)) (part at size (now (cells .entry)))) ⌝ }
+{
+    let end = at + size;
+    transform_by(cells, at, size, table, step);
+    turn_round(&mut cells[at..end]);
 }

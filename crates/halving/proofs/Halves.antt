@@ -14,6 +14,7 @@ use Rattle.field.proofs.Ring.{sum-lt, difference-lt}
 use Rattle.field.proofs.Size.{level-le, level-power}
 use Rattle.poly.specs.Tab.{tab}
 use Rattle.poly.proofs.Symbols.{append-symbols, tab-symbols}
+use Rattle.poly.proofs.Tab.{tab-length}
 use Rattle.halving.specs.Halving.{turned, joined}
 use Rattle.halving.specs.InPlace.{halved}
 use Rattle.halving.specs.Ready.{Ready}
@@ -54,6 +55,17 @@ pub halved-symbols : (k r : ℕ) (a : List ℕ) → Symbols a → Symbols (halve
 unfolding halved
 halved-symbols zero r a small = small
 halved-symbols (suc k) r a small = joined-symbols r _ _
+
+joined-length : (r : ℕ) (e o : List ℕ) → length (joined r e o) ≡ length e + length e
+unfolding joined
+joined-length r e o = simp (length-append, tab-length)
+
+pub halved-length : (k r : ℕ) (a : List ℕ) → length a ≡ 2 ^ k → length (halved k r a) ≡ 2 ^ k
+unfolding halved
+halved-length zero r a e = e
+halved-length (suc k) r a e =
+    joined-length r _ _
+    ∙ omega (arith, halved-length k (product r r) (take (2 ^ k) a) (length-take-le (2 ^ k) a (omega arith)))
 
 -- The halves of a list of more than one number, lent one after the other: e is what the first is left with, o the second
 

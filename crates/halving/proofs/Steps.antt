@@ -37,7 +37,7 @@ module _ (d : List ℕ) (ready : Ready d) where
   size : length d ≡ 2 ^ levelOf (length d)
   size = ready-power d ready
 
-  arranged-length : length (arranged d) ≡ length d
+  pub arranged-length : length (arranged d) ≡ length d
   unfolding arranged
   arranged-length = tab-length (length d) _
 

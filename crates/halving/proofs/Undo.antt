@@ -113,8 +113,8 @@ module _ (a : List ℕ) (ready : Ready a) where
   unfolding n
   size = ready-power a ready
 
-  opposed : Opposite r q n
-  unfolding r q rootOf
+  pub opposed : Opposite (rootOf (length a)) (inverse (rootOf (length a))) (length a)
+  unfolding n rootOf
   opposed = subst (Opposite (root (levelOf n)) (inverse (root (levelOf n)))) (sym size) (opposite (levelOf n) (level-le n))
 
   -- 1/N times N is one

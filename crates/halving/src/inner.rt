@@ -35,7 +35,7 @@ fn next_place(place: usize, size: usize) -> usize
 }
 
 // Each pair of places changes once, when the lower of them is met.
-fn exchange(list: &mut [u32], i: usize, j: usize)
+pub fn exchange(list: &mut [u32], i: usize, j: usize)
     requires { ⌜ (i < length (now list)) × (j < length (now list)) ⌝ }
     ensures { λ _. ⌜ now (list .exit) ≡ exchanged (now (list .entry)) i j ⌝ }
 {
@@ -46,7 +46,7 @@ fn exchange(list: &mut [u32], i: usize, j: usize)
     }
 }
 
-fn arrange(list: &mut [u32])
+pub fn arrange(list: &mut [u32])
     requires { ⌜ length (now list) ≡ sizeOf (length (now list)) ⌝ }
     ensures { λ _. ⌜ now (list .exit) ≡ arranged (now (list .entry)) ⌝ }
 {

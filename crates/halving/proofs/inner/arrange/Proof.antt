@@ -2,14 +2,15 @@
 -- Assumes nothing.
 use mathlib.Core.Path.{_≡_, sym, _∙_}
 use mathlib.Core.List.{List}
+use mathlib.Core.Logic.{inl}
 use Prim.Native.Nat.{ℕ, _+_, _-_, _^_, _<_, _≤_}
 use native.Mathlib.Omega.{arith}
 use borrow.Author.Needs.{needs}
 use lib.ListN.{length}
 use Rattle.field.specs.Size.{levelOf, sizeOf}
-use Rattle.halving.specs.Order.{reversed, exchanged, IsNext}
-use Rattle.halving.proofs.Arranging.{Arranging, arranging-none, arranging-more, arranging-all}
-use Rattle.halving.proofs.Order.{reversed-lt, reversed-zero}
+use Rattle.halving.specs.Order.{reversed, arranged, exchanged, IsNext}
+use Rattle.halving.proofs.Arranging.{Paired, Arranging, arranging-none, arranging-more, arranging-all}
+use Rattle.halving.proofs.Order.{reversed-lt, reversed-twice, reversed-zero}
 use Rattle.halving.proofs.inner.arrange.Statement.{statement}
 use Rattle.halving.proofs.inner.arrange.Tie as tie
 
@@ -17,13 +18,21 @@ record Met (d list : List ℕ) (i place : ℕ) : Type 0 where
   some : i ≤ length d
   long : length list ≡ length d
   reverse : place ≡ reversed (levelOf (length d)) i
-  arranging : Arranging (levelOf (length d)) d list i
+  arranging : Arranging (length d) (reversed (levelOf (length d))) d list i
 
 abbrev Inv-loop : tie.InvT-loop
 Inv-loop list₀ i₀ place₀ list i place = Met list₀ list i place
 
 abbrev μ-loop : tie.MeasureT-loop
 μ-loop list₀ i₀ place₀ list i place = length list₀ - i
+
+-- a place and the one with its digits in reverse
+paired : (d : List ℕ) → length d ≡ 2 ^ levelOf (length d) → Paired (length d) (reversed (levelOf (length d)))
+paired d size =
+    record {
+      below = λ x h. omega (arith, size, reversed-lt (levelOf (length d)) x);
+      twice = λ x h. reversed-twice (levelOf (length d)) x (omega (arith, size));
+    }
 
 module _ (d : List ℕ) (size : length d ≡ 2 ^ levelOf (length d)) (list : List ℕ) (i place : ℕ) (m : Met d list i place) (h : i < length list) where
   below : (i < length list) × (place < length list)
@@ -38,17 +47,17 @@ module _ (d : List ℕ) (size : length d ≡ 2 ^ levelOf (length d)) (list : Lis
         reverse = after .next (levelOf (length d)) i (same ∙ m .long ∙ size) (m .reverse);
         arranging =
             rw (change, m .reverse)
-            (arranging-more (levelOf (length d)) d list i (omega (arith, m .long)) (m .long ∙ size) (m .arranging));
+            (arranging-more (length d) _ (paired d size) d list i (omega (arith, m .long)) (m .long) (m .arranging));
       }
 
 pub arrange-spec : {M : Type 1} → statement M
-unfolding sizeOf
+unfolding sizeOf arranged
 arrange-spec =
     tie.close
     (tie.spec
     Inv-loop
     μ-loop
-    (λ c. record { some = search needs; long = search needs; reverse = sym (reversed-zero _); arranging = arranging-none _ _ })
+    (λ c. record { some = search needs; long = search needs; reverse = sym (reversed-zero _); arranging = arranging-none _ _ _ })
     (λ c κs.
     let at = c .before .before in
     let l = at .loop in
@@ -68,4 +77,4 @@ arrange-spec =
     (λ c. c .before .loop .inv .long)
     (λ c.
     let l = c .before .loop in
-    arranging-all _ (l .list) (c .before .before .before .pre) (l .inv .long) (l .i) (omega (arith, l .inv .long)) (l .inv .arranging)))
+    arranging-all _ _ (l .list) (l .i) (l .inv .long) (l .inv .arranging) (λ x h. inl (omega (arith, l .inv .long)))))

@@ -1,0 +1,5 @@
+pub mod Part
+pub mod Turns
+pub mod Halves
+pub mod Round
+pub mod Steps

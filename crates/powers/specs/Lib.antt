@@ -1,0 +1,3 @@
+pub mod Part
+pub mod Turns
+pub mod Round

@@ -4,7 +4,7 @@
 use mathlib.Core.Path.{_≡_, sym, _∙_}
 use mathlib.Core.Bool.{Bool, true, false, not}
 use mathlib.Core.List.{List, []}
-use Prim.Native.Nat.{ℕ, zero, suc, _+_, _<_, _≤_}
+use Prim.Native.Nat.{ℕ, zero, suc, _+_, _*_, _<_, _≤_}
 use native.Mathlib.Nat.{le-trans}
 use native.Mathlib.Omega.{arith}
 use borrow.Author.Tests.{ltb-false, leb-true, eqb-true, not-false}
@@ -17,12 +17,14 @@ use Rattle.field.specs.declared.refusal.Refusal.the-variants.{Shape, Form}
 use Rattle.field.proofs.Checks.{passed, or-false}
 use Rattle.field.proofs.Shape.{shape-good}
 use Rattle.storage.specs.Blocks.{blocksOf, longestFile, mostBlocks, badBundleShape}
+use Rattle.storage.specs.Bytes.{Bytes}
 use Rattle.layout.specs.Fields.{kIn, nIn, lengthIn, heldIn, lastIn, blocksIn, entryAt, positionIn, countIn, offsetIn}
 use Rattle.layout.specs.Layout.{badFront, startOf, badEntry, restGood, layoutChecks}
 use Rattle.layout.specs.Mark.{mark, startsWith}
 use Rattle.storage.specs.Rising.{rises}
 use Rattle.layout.specs.Shadows.{headerSize, entrySize, firstBody}
-use Rattle.storage.specs.Storage.{bodyGood}
+use Rattle.storage.specs.Storage.{bodySize, bodyGood}
+use Rattle.storage.proofs.BytesLaws.{two-lt}
 use Rattle.storage.proofs.RisingLaws.{none-found, in-order-rises, rising-apart, rising-count}
 use Rattle.storage.proofs.Storing.{both}
 use Rattle.layout.proofs.Entries.{body-inside, entry-inside, entry-told}
@@ -165,3 +167,18 @@ module _ (s : List ℕ) (good : layoutChecks s ≡ result []) where
 
   pub held-few : heldIn s ≤ nIn s
   held-few = rising-count (nIn s) (heldIn s) (positionIn s) positions-rise
+
+  -- n bodies of no more than 65535 list entries and 65535 words: an index of the bundle fits in four bytes
+  module _ (bytes : Bytes s) where
+    body-limited : (t : ℕ) → bodySize (blocksIn s) (countIn s t) ≤ 262140
+    unfolding bodySize countIn mostBlocks
+    body-limited t = omega (arith, blocks-limited, two-lt s (entryAt t + 2) bytes)
+
+    start-limited : (t : ℕ) → startOf s t ≤ firstBody (heldIn s) + 262140 * t
+    unfolding startOf
+    start-limited zero = omega arith
+    start-limited (suc t) = omega (arith, start-limited t, body-limited t)
+
+    pub bundle-limited : length s < 4294967296
+    unfolding longest firstBody headerSize entrySize
+    bundle-limited = omega (arith, bodies-end, start-limited (heldIn s), held-few, n-limited)

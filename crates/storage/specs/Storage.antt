@@ -1,10 +1,11 @@
 -- How a body stores B symbols (document 01, "The bundle"): "A body is c block numbers of 2 bytes, rising strictly, each below B; then B words of
 -- 2 bytes, one for each block." How a symbol is stored is said here.
-use mathlib.Core.Bool.{Bool, cond, _&&_}
+use mathlib.Core.Path.{_≡_}
+use mathlib.Core.Bool.{Bool, true, cond, _&&_}
 use mathlib.Core.List.{List, [], _∷_, _++_}
-use Prim.Native.Nat.{ℕ, zero, suc, _+_, _*_}
+use Prim.Native.Nat.{ℕ, zero, suc, _+_, _*_, _<_}
 use lib.Dec.{leb, ltb, eqb}
-use lib.ListN.{length}
+use lib.ListN.{length, drop}
 use Rattle.field.specs.First.{first}
 use Rattle.poly.specs.Tab.{tab}
 use Rattle.storage.specs.Bytes.{two, inBytes, twoAt, put}
@@ -57,3 +58,20 @@ symbolIn c s b = cond (listed c s b) 65536 (twoAt s (2 * c + 2 * b))
 -- how many entries of an overflow list are below b
 unfoldable pub cursorIn : ℕ → List ℕ → ℕ → ℕ
 cursorIn c body b = first c (λ j. leb b (listAt body j))
+
+-- As it is read by index: the body begins at an index of s
+
+-- where its words begin, and its overflow list ends
+unfoldable pub wordsAt : ℕ → ℕ → ℕ
+wordsAt at c = at + 2 * c
+
+-- where the entry stands that is next at block b
+unfoldable pub cursorAt : ℕ → ℕ → List ℕ → ℕ → ℕ
+cursorAt at c s b = at + 2 * cursorIn c (drop at s) b
+
+-- a good body, and these two indices of it at block b
+pub record Placed (at B c : ℕ) (s : List ℕ) (b words cursor : ℕ) : Type 0 where
+  pub good : bodyGood B c (drop at s) ≡ true
+  pub inside : b < B
+  pub words-there : words ≡ wordsAt at c
+  pub cursor-there : cursor ≡ cursorAt at c s b

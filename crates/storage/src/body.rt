@@ -4,13 +4,15 @@ use crate::inner::put_two;
 use crate::inner::two_at;
 use field::inner::wide;
 ghost use mathlib.Core.Path.{_≡_};
-ghost use mathlib.Core.Bool.{true, _&&_};
-ghost use Prim.Native.Nat.{suc, _+_, _*_, _<_, _≤_};
+ghost use mathlib.Core.Bool.{_&&_};
+ghost use mathlib.Core.List.{List};
+ghost use Prim.Native.Nat.{ℕ, suc, _+_, _*_, _<_, _≤_};
 ghost use lib.Dec.{ltb, eqb};
-ghost use lib.ListN.{length};
+ghost use lib.ListN.{length, drop};
 ghost use Rattle.storage.specs.Blocks.{mostBlocks};
+ghost use Rattle.storage.specs.Bytes.{Bytes, twoAt};
 ghost use Rattle.storage.specs.Rising.{rises};
-ghost use Rattle.storage.specs.Storage.{stored, listAt, bodySize, bodyGood, symbolIn, cursorIn};
+ghost use Rattle.storage.specs.Storage.{stored, listAt, bodySize, bodyGood, symbolIn, wordsAt, cursorAt, Placed};
 
 // The symbol of block b into its body, of whose overflow list done entries are written: 65536 is listed, and its word is 00 00.
 pub fn store(body: &mut [u8], count: usize, done: usize, b: usize, symbol: u32)
@@ -33,37 +35,45 @@ pub fn body_size(blocks: usize, count: usize) -> usize
     2 * count + 2 * blocks
 }
 
-// Whether block b is the next of the overflow list, of which done entries are below b.
-fn is_next(body: &[u8], count: usize, done: usize, b: usize) -> bool
-    requires { ⌜ 2 * count ≤ length (now body) ⌝ }
-    ensures { λ r. ⌜ r ≡ ltb done count && eqb (listAt (now (body .entry)) done) b ⌝ }
+// Where the words of the body that begins at an index begin.
+pub fn words_at(at: usize, count: usize) -> usize
+    requires { ⌜ (at < 4294967296) × (count < 65536) ⌝ }
+    ensures { λ r. ⌜ r ≡ wordsAt at count ⌝ }
 {
-    if count <= done {
+    at + 2 * count
+}
+
+// Whether the next entry of an overflow list, which ends where the words begin, is block b.
+fn is_next(bytes: &[u8], words: usize, cursor: usize, b: usize) -> bool
+    requires { ⌜ words < length (now bytes) ⌝ }
+    ensures { λ r. ⌜ r ≡ ltb cursor words && eqb (twoAt (now (bytes .entry)) cursor) b ⌝ }
+{
+    if words <= cursor {
         return false;
     }
-    two_at(body, 2 * done) == b
+    two_at(bytes, cursor) == b
 }
 
 // The symbol of block b: 65536 where it is listed, else its word.
-pub fn symbol(body: &[u8], blocks: usize, count: usize, done: usize, b: usize) -> u32
-    requires { ⌜ (bodyGood blocks count (now body) ≡ true) × (b < blocks) × (done ≡ cursorIn count (now body) b) ⌝ }
-    ensures { λ r. ⌜ r ≡ symbolIn count (now (body .entry)) b ⌝ }
+pub fn symbol_at(bytes: &[u8], words: usize, cursor: usize, b: usize) -> u32
+    requires { ⌜ ((at : ℕ) × (B : ℕ) × (c : ℕ) × Placed at B c (now bytes) b words cursor) ⌝ }
+    ensures { λ r. ⌜ ((at B c : ℕ) → Placed at B c (now (bytes .entry)) b words cursor → r ≡ symbolIn c (drop at (now (bytes .entry))) b) ⌝ }
 {
-    if is_next(body, count, done, b) {
+    if is_next(bytes, words, cursor, b) {
         return 65536;
     }
-    two_at(body, 2 * count + 2 * b) as u32
+    two_at(bytes, words + 2 * b) as u32
 }
 
-// How many entries of the list are below b + 1.
-pub fn advance(body: &[u8], blocks: usize, count: usize, done: usize, b: usize) -> u32
-    requires { ⌜ (bodyGood blocks count (now body) ≡ true) × (b < blocks) × (done ≡ cursorIn count (now body) b) × (count < 65536) ⌝ }
-    ensures { λ r. ⌜ r ≡ cursorIn count (now (body .entry)) (suc b) ⌝ }
+// The cursor of the block behind the one that has this symbol: only a listed symbol is 65536.
+pub fn cursor_after(cursor: usize, symbol: u32) -> usize
+    requires { ⌜ cursor < 4294967296 ⌝ }
+    ensures { λ r. ⌜ ((at B c b words : ℕ) (s : List ℕ) → Bytes s → Placed at B c s b words cursor → symbol ≡ symbolIn c (drop at s) b → r ≡ cursorAt at c s (suc b)) ⌝ }
 {
-    if is_next(body, count, done, b) {
-        return (done + 1) as u32;
+    if symbol == 65536 {
+        return cursor + 2;
     }
-    done as u32
+    cursor
 }
 
 // Whether a body's overflow list rises strictly, each entry below the limit.

@@ -1,10 +1,11 @@
 // No entry points: numbers in bytes, and how a body stores its symbols, for the crates above. Those that read or write at an index ask that it lies
 // inside.
-pub use crate::body::advance;
 pub use crate::body::body_good;
 pub use crate::body::body_size;
+pub use crate::body::cursor_after;
 pub use crate::body::store;
-pub use crate::body::symbol;
+pub use crate::body::symbol_at;
+pub use crate::body::words_at;
 ghost use mathlib.Core.Path.{_≡_};
 ghost use Prim.Native.Nat.{_+_, _<_};
 ghost use lib.ListN.{length};

@@ -2,16 +2,13 @@
 -- Assumes nothing.
 use borrow.Author.Needs.{needs}
 use borrow.Author.Tests.{lt-ltb, le-ltb}
-use Rattle.storage.specs.Storage.{listAt}
 use Rattle.storage.proofs.body.is_next.Statement.{statement}
 use Rattle.storage.proofs.body.is_next.Tie as tie
 
 pub is-next-spec : {M : Type 1} → statement M
-unfolding listAt
 is-next-spec =
     tie.close
     (tie.spec
     (λ c. simp (le-ltb _ _ (c .if1 .taken)))
-    (λ c. search needs)
     (λ c κs. search needs)
     (λ c. simp (lt-ltb _ _ (c .before .if1 .left), c .two-at .ensures .0)))

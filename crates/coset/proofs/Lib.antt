@@ -1,4 +1,6 @@
 pub mod Grid
 pub mod Between
 pub mod Room
+pub mod Turning
 pub mod Folding
+pub mod Valuing

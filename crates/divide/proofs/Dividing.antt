@@ -46,7 +46,7 @@ module _ (e k : ℕ) (few-e : e < 16) (zs h : List ℕ) (size : length h ≡ 2 ^
   r = rootOf N
 
   -- N times the coefficients
-  pub grown : List ℕ
+  unfoldable pub grown : List ℕ
   grown = sums (inverse (rootOf (length h))) h
 
   opposed : Opposite (inverse r) r N
@@ -91,9 +91,11 @@ module _ (e k : ℕ) (few-e : e < 16) (zs h : List ℕ) (size : length h ≡ 2 ^
   unfolding points N r rootOf pointOf
   points-apart =
       distinct-tab (length h) (pointOf (length h)) (λ i j l m same.
-      absurd (omega (arith,
-      powers-distinct (rootOf (length h)) (2 ^ e) (rw level (root-order e (omega arith))) j i (omega (arith, size)) (omega (arith, size))
-      (≈-sym (power-≈ (rootOf (length h)) j) ∘≈ same ∘≈ power-≈ (rootOf (length h)) i))))
+      absurd (omega (
+        arith,
+        powers-distinct (rootOf (length h)) (2 ^ e) (rw level (root-order e (omega arith))) j i (omega (arith, size)) (omega (arith, size))
+            (≈-sym (power-≈ (rootOf (length h)) j) ∘≈ same ∘≈ power-≈ (rootOf (length h)) i),
+      )))
 
   settled : (s : List ℕ) → length s ≡ N → Symbols s → ((j : ℕ) → j < N → value s (pointOf N j) ≈ N * getD h j 0) → grown ≡ s
   unfolding points N

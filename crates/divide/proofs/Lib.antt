@@ -1,3 +1,5 @@
 pub mod Quotients
 pub mod Dividing
 pub mod Untwisting
+pub mod Quotienting
+pub mod Solving

@@ -77,7 +77,6 @@ module _ (n : ℕ) where
   point-full j =
       pow-≈ (power-≈ (root (levelOf (sizeOf n))) j) (sizeOf n)
       ∘≈ full-power (root (levelOf (sizeOf n))) (sizeOf n) j full
-
     where
       full : root (levelOf (sizeOf n)) ^ sizeOf n ≈ 1
       full = rw (level-size n, size-power n) (root-full (levelOf n) (suc-le-suc (level-le n)))

@@ -1,0 +1,4 @@
+pub mod Kept
+pub mod Marking
+pub mod Gathering
+pub mod Starting

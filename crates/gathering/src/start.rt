@@ -1,0 +1,72 @@
+// What is worked out once for a bundle, before its first block. Of the 8N cells of working space the decoder has the first 4N, 1 / (N·K·M) and the
+// powers of ψ among them; behind them stand the weights M(x), and for each held shadow where its words begin, its cursor and its position.
+// No entry points: the callers have made the checks, and reach what they need in `inner`.
+use cells::inner::clear;
+use field::inner::size;
+use layout::inner::count_in;
+use layout::inner::held_in;
+use layout::inner::k_in;
+use layout::inner::n_in;
+use layout::inner::offset_in;
+use layout::inner::position_in;
+use storage::inner::words_at;
+ghost use mathlib.Core.Path.{_≡_};
+ghost use mathlib.Core.List.{[], _++_};
+ghost use Prim.Native.Nat.{_+_, _*_, _<_};
+ghost use lib.ListN.{length, getD, take, drop, set};
+ghost use Rattle.field.specs.Refusals.{result};
+ghost use Rattle.field.specs.Size.{sizeOf};
+ghost use Rattle.poly.specs.Tab.{tab};
+ghost use Rattle.layout.specs.Fields.{nIn, heldIn, positionIn};
+ghost use Rattle.layout.specs.Layout.{layoutChecks};
+ghost use Rattle.layout.specs.Rooms.{workRoom};
+ghost use Rattle.gathering.specs.Gathering.{marksIn, missingIn, wordsHeld, cursorHeld, Shadows, Laid};
+
+// Shadow t; size is N.
+fn lay_shadow(bundle: &[u8], size: usize, t: usize, cells: &mut [u32])
+    requires { ⌜ (layoutChecks (now bundle) ≡ result []) × (t < heldIn (now bundle)) × (size ≡ sizeOf (nIn (now bundle))) × (length (now cells) ≡ 8 * size) ⌝ }
+    ensures { λ _. ⌜ now (cells .exit) ≡ set (set (set (now (cells .entry)) (5 * size + t) (wordsHeld (now (bundle .entry)) t)) (6 * size + t) (cursorHeld (now (bundle .entry)) 0 t)) (7 * size + t) (positionIn (now (bundle .entry)) t) ⌝ }
+{
+    let at = offset_in(bundle, t);
+    cells[5 * size + t] = words_at(at, count_in(bundle, t)) as u32;
+    cells[6 * size + t] = at as u32;
+    cells[7 * size + t] = position_in(bundle, t) as u32;
+}
+
+fn lay_shadows(bundle: &[u8], size: usize, cells: &mut [u32])
+    requires { ⌜ (layoutChecks (now bundle) ≡ result []) × (size ≡ sizeOf (nIn (now bundle))) × (length (now cells) ≡ 8 * size) ⌝ }
+    ensures { λ _. ⌜ Shadows (now (bundle .entry)) (heldIn (now (bundle .entry))) (now (cells .exit)) ⌝ }
+{
+    let held = held_in(bundle);
+    let mut t = 0;
+    while t < held {
+        lay_shadow(bundle, size, t, cells);
+        t += 1;
+    }
+}
+
+fn mark_held(bundle: &[u8], marks: &mut [u32])
+    requires { ⌜ (layoutChecks (now bundle) ≡ result []) × (length (now marks) ≡ sizeOf (nIn (now bundle))) ⌝ }
+    ensures { λ _. ⌜ now (marks .exit) ≡ marksIn (now (bundle .entry)) (heldIn (now (bundle .entry))) ⌝ }
+{
+    clear(marks);
+    let held = held_in(bundle);
+    let mut t = 0;
+    while t < held {
+        marks[position_in(bundle, t)] = 1;
+        t += 1;
+    }
+}
+
+// The weights, which the preparation leaves in front, to where no block changes them.
+fn keep_weights(size: usize, cells: &mut [u32])
+    requires { ⌜ length (now cells) ≡ 8 * size ⌝ }
+    ensures { λ _. ⌜ now (cells .exit) ≡ take (4 * size) (now (cells .entry)) ++ (tab size (λ j. getD (now (cells .entry)) j 0) ++ drop (4 * size + size) (now (cells .entry))) ⌝ }
+{
+    let from = 4 * size;
+    let mut j = 0;
+    while j < size {
+        cells[from + j] = cells[j];
+        j += 1;
+    }
+}

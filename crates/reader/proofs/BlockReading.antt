@@ -1,7 +1,7 @@
 -- What the reader makes of one block, and of the blocks in order: its message's bytes in the file, and the answers one after the other.
 -- Assumes nothing.
 use mathlib.Core.Path.{_≡_, refl, subst, sym, ap, ap₂, _∙_}
-use mathlib.Core.Bool.{Bool, true, false, cond, not}
+use mathlib.Core.Bool.{true, false, not}
 use mathlib.Core.List.{List, [], _∷_, _++_, append-assoc, append-nil}
 use mathlib.Core.Option.{Option, some, none}
 use Prim.Native.Nat.{ℕ, zero, suc, _+_, _*_, _-_, _<_, _≤_}
@@ -16,7 +16,6 @@ use lib.Seq.{length-take-le, take-at, take-all, take-length, take-append-le, tak
 use Rattle.field.specs.First.{first}
 use Rattle.field.specs.Leaves.{left}
 use Rattle.field.specs.Refusals.{Answer, result, refused, toldOutcome}
-use Rattle.field.specs.Size.{sizeOf}
 use Rattle.field.specs.Symbol.{Symbols}
 use Rattle.field.specs.declared.refusal.Outcome.{Outcome}
 use Rattle.field.specs.declared.refusal.Outcome.the-variants.{Done}
@@ -25,28 +24,16 @@ use Rattle.field.specs.declared.refusal.Refusal.the-variants.{Disagree, Word, T
 use Rattle.field.proofs.Checks.{stops, goes-on}
 use Rattle.field.proofs.First.{first-before}
 use Rattle.field.proofs.Refusals.{result-no-refusal}
-use Rattle.poly.specs.Tab.{tab}
-use Rattle.code.specs.Decoding.{decodeOf}
-use Rattle.code.specs.Held.{held}
-use Rattle.code.specs.Meeting.{messageOf}
-use Rattle.code.specs.Ready.{Ready}
-use Rattle.within.specs.Within.{positionsWithin, valuesWithin, heldWithin}
-use Rattle.code.proofs.Decoding.{decodes-fitting}
-use Rattle.within.proofs.HeldWithin.{same-later, same-behind}
-use Rattle.code.proofs.Meeting.{message-is}
 use Rattle.storage.specs.Blocks.{blocksOf}
-use Rattle.storage.specs.Bytes.{Bytes, inBytes}
+use Rattle.storage.specs.Bytes.{inBytes}
 use Rattle.layout.specs.Facts.{after}
 use Rattle.layout.specs.Fields.{kIn, nIn, lengthIn, heldIn, blocksIn}
 use Rattle.layout.specs.Layout.{layoutChecks}
 use Rattle.storage.proofs.BytesLaws.{in-bytes-length}
 use Rattle.layout.proofs.Passing.{k-some}
 use Rattle.reader.proofs.MessageBytes.{laid-past}
-use Rattle.reader.specs.Gathering.{Laid}
-use Rattle.reader.specs.Reading.{some-meets, symbolHeld, heldAt, decodedAt, badWord, badTail, judged, blockAnswer, blocksAnswer, bytesOf, bytesBefore, fileIn}
-use Rattle.layout.specs.Rooms.{workRoom}
-use Rattle.reader.proofs.Gathered.{held-room}
-use Rattle.reader.proofs.HeldBlocks.{ready}
+use Rattle.gathering.specs.Gathering.{Laid}
+use Rattle.reader.specs.Reading.{some-meets, decodedAt, badWord, badTail, judged, blockAnswer, blocksAnswer, bytesOf, bytesBefore, fileIn}
 use Rattle.storage.proofs.BlocksLaws.{block-inside, blocks-hold}
 
 -- One message
@@ -136,49 +123,6 @@ bytes-laid k b from message file after long first is =
 
 -- One block
 
--- the held symbols, as decoding finds them in the working space
-module _ (s : List ℕ) (b : ℕ) (cells : List ℕ) (bytes : Bytes s) (good : layoutChecks s ≡ result []) (enough : kIn s ≤ heldIn s) (laid : Laid s (suc b) cells) (values : valuesWithin (heldIn s) (nIn s) cells ≡ tab (heldIn s) (symbolHeld s b)) where
-  held-there : heldWithin (heldIn s) (nIn s) cells ≡ heldAt s b
-  unfolding heldAt
-  held-there = ap₂ held (laid .positions) values
-
-  cells-long : length cells ≡ 8 * sizeOf (nIn s)
-  unfolding workRoom
-  cells-long = laid .long
-
-  -- k, n and m are what the code has read
-  module _ (k n m : ℕ) (first : k ≡ kIn s) (second : n ≡ nIn s) (third : m ≡ heldIn s) where
-    pub solve-ready : Ready k n (heldWithin m n cells) × (m ≤ sizeOf n) × (length cells ≡ 8 * sizeOf n)
-    solve-ready =
-        subst (λ (k : ℕ). Ready k n (heldWithin m n cells) × (m ≤ sizeOf n) × (length cells ≡ 8 * sizeOf n)) (sym first)
-        (subst (λ (n : ℕ). Ready (kIn s) n (heldWithin m n cells) × (m ≤ sizeOf n) × (length cells ≡ 8 * sizeOf n)) (sym second)
-        (subst (λ (m : ℕ). Ready (kIn s) (nIn s) (heldWithin m (nIn s) cells) × (m ≤ sizeOf (nIn s)) × (length cells ≡ 8 * sizeOf (nIn s))) (sym third)
-        (subst (Ready (kIn s) (nIn s)) (sym held-there) (ready s b bytes good enough), held-room s good, cells-long)))
-
-    -- found is what decoding answered, now the cells afterwards
-    module _ (now : List ℕ) (found : Bool) (decodes : decodeOf k n (heldWithin m n cells) ≡ cond found (some (messageOf (take k now))) none) where
-      decoded : decodedAt s b ≡ cond found (some (messageOf (take k now))) none
-      unfolding decodedAt
-      decoded =
-          ap (decodeOf (kIn s) (nIn s)) (sym held-there)
-          ∙ ap (λ (k : ℕ). decodeOf k (nIn s) (heldWithin (heldIn s) (nIn s) cells)) (sym first)
-          ∙ ap (λ (n : ℕ). decodeOf k n (heldWithin (heldIn s) n cells)) (sym second)
-          ∙ ap (λ (m : ℕ). decodeOf k n (heldWithin m n cells)) (sym third) ∙ decodes
-
-      pub none-decoded : found ≡ false → decodedAt s b ≡ none
-      none-decoded e = decoded ∙ ap (λ (x : Bool). cond x (some (messageOf (take k now))) none) e
-
-      pub message-decoded : found ≡ true → decodedAt s b ≡ some (take (k - 0) now)
-      message-decoded e =
-          decoded ∙ ap (λ (x : Bool). cond x (some (messageOf (take k now))) none) e
-          ∙ ap some (message-is (take k now) ∙ ap (λ (z : ℕ). take z now) {x = k} {y = k - 0} (omega arith))
-
-      pub message-good : found ≡ true → (length (take (k - 0) now) ≡ kIn s) × Symbols (take (k - 0) now)
-      unfolding decodedAt
-      message-good e =
-          let fits = decodes-fitting (kIn s) (nIn s) (heldAt s b) (ready s b bytes good enough) (take (k - 0) now) .0 (message-decoded e) in
-          (fits .message .long, fits .message .symbols)
-
 -- the block's answer, from what became of its message
 
 pub block-message : (s : List ℕ) (b : ℕ) (message : List ℕ) (a : Answer) → decodedAt s b ≡ some message → a ≡ judged (kIn s) (lengthIn s) b (some message)
@@ -189,20 +133,6 @@ block-message s b message a decoded is = is ∙ ap (judged (kIn s) (lengthIn s) 
 pub block-none : (s : List ℕ) (b : ℕ) → decodedAt s b ≡ none → refused (Disagree b) ≡ blockAnswer s b
 unfolding blockAnswer judged
 block-none s b decoded = ap (judged (kIn s) (lengthIn s) b) (sym decoded)
-
--- the working space after decoding, which keeps what stands from 4N on
-pub laid-kept : (s : List ℕ) (b n : ℕ) (cells now : List ℕ) → layoutChecks s ≡ result [] → n ≡ nIn s → Laid s b cells → length now ≡ length cells
-    → drop (4 * sizeOf n) now ≡ drop (4 * sizeOf n) cells → Laid s b now
-unfolding positionsWithin
-laid-kept s b n cells now good second laid same kept =
-    record {
-      long = same ∙ laid .long;
-      positions = ap (take (heldIn s)) (same-behind (4 * sizeOf (nIn s)) (6 * sizeOf (nIn s)) now cells behind (omega arith)) ∙ laid .positions;
-      cursors = λ t h. same-later (4 * sizeOf (nIn s)) (5 * sizeOf (nIn s) + t) now cells behind (omega arith) ∙ laid .cursors t h;
-    }
-  where
-    behind : drop (4 * sizeOf (nIn s)) now ≡ drop (4 * sizeOf (nIn s)) cells
-    behind = subst (λ (m : ℕ). drop (4 * sizeOf m) now ≡ drop (4 * sizeOf m) cells) second kept
 
 -- the file with one block more
 pub bytes-more : (s : List ℕ) (b n : ℕ) (message file now : List ℕ) → decodedAt s b ≡ some message

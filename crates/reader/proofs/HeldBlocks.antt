@@ -1,21 +1,26 @@
--- What a bundle of good layout holds for a block: it is ready to be decoded.
+-- What a bundle of good layout holds for a block: it is ready to be decoded, and gathered as decoding takes it.
 -- Assumes nothing.
-use mathlib.Core.Path.{_≡_, sym, _∙_}
+use mathlib.Core.Path.{_≡_, sym, ap, ap₂, _∙_}
 use mathlib.Core.List.{List, []}
 use Prim.Native.Nat.{ℕ, _<_, _≤_}
 use native.Mathlib.Omega.{arith}
 use lib.ListN.{length, getD, drop}
+use Rattle.field.specs.Field.{product}
 use Rattle.field.specs.Refusals.{result}
+use Rattle.field.specs.Size.{sizeOf}
 use Rattle.poly.proofs.Symbols.{tab-symbols}
 use Rattle.poly.proofs.Tab.{tab-length, tab-at}
 use Rattle.code.specs.Held.{held}
 use Rattle.code.specs.Ready.{Ready}
+use Rattle.missing.specs.Missing.{Marks, missing, weights, Weighted}
 use Rattle.storage.specs.Bytes.{Bytes}
 use Rattle.layout.specs.Fields.{kIn, nIn, heldIn, positionIn, countIn, offsetIn}
 use Rattle.layout.specs.Layout.{layoutChecks}
 use Rattle.storage.proofs.BytesLaws.{bytes-drop}
 use Rattle.layout.proofs.Passing.{shape-passed, position-below, position-after}
 use Rattle.storage.proofs.Theorems.{symbols-read}
+use Rattle.gathering.specs.Gathering.{marksIn, missingIn, weightedHeld, Gathered}
+use Rattle.gathering.proofs.Marking.{position-inside, marked}
 use Rattle.reader.specs.Reading.{symbolHeld, heldAt}
 
 module _ (s : List ℕ) (b : ℕ) where
@@ -48,4 +53,21 @@ module _ (s : List ℕ) (b : ℕ) where
             λ i j h l e. let less : j < heldIn s = omega (arith, held-count) in
             omega (arith, held-position i (omega arith), held-position j less, position-after s good i j h less);
         symbols = tab-symbols (heldIn s) (symbolHeld s b) (λ i h. symbol-held bytes i);
+      }
+
+  pub held-marked : layoutChecks s ≡ result [] → Marks (sizeOf (nIn s)) (heldAt s b .positions) (marksIn s (heldIn s))
+  unfolding heldAt held
+  held-marked good = marked s good
+
+  -- list is the front of the cells into which the block is gathered
+  pub weighted : layoutChecks s ≡ result [] → (cells : List ℕ) → Gathered s b (heldIn s) cells → (list : List ℕ) → length list ≡ sizeOf (nIn s)
+      → ((i : ℕ) → i < sizeOf (nIn s) → getD list i 0 ≡ getD cells i 0) → Weighted (sizeOf (nIn s)) (marksIn s (heldIn s)) (heldAt s b) list
+  unfolding missingIn weightedHeld symbolHeld
+  weighted good cells gathered list long same =
+      record {
+        long = long;
+        at = λ t l. let h : t < heldIn s = omega (arith, l, held-count) in
+            ap (λ (j : ℕ). getD list j 0) (held-position t h) ∙ same (positionIn s t) (position-inside s good t h) ∙ gathered .at t h
+            ∙ ap₂ (λ (x j : ℕ). product x (getD (weights (sizeOf (nIn s)) (missing (sizeOf (nIn s)) (marksIn s (heldIn s)))) j 0)) (sym (held-value t h)) (sym (held-position t h));
+        none = λ j l free. same j l ∙ gathered .none j l free;
       }

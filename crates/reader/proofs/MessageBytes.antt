@@ -8,12 +8,13 @@ use native.Mathlib.Decide.{decLt}
 use native.Mathlib.Omega.{arith}
 use borrow.Author.Tests.{eq-eqb, ne-eqb}
 use lib.Dec.{eqb}
-use lib.ListN.{length, getD, take, drop, length-drop, drop-of-length-le}
+use lib.ListN.{length, getD, take, drop, set, length-drop, drop-of-length-le}
 use lib.Seq.{getD-drop, getD-take, length-take-le, take-all}
 use Rattle.poly.specs.Tab.{tab}
 use Rattle.poly.proofs.Tab.{tab-ext, tab-getD}
-use Rattle.poly.proofs.Window.{window}
-use Rattle.storage.specs.Bytes.{two, inBytes}
+use Rattle.poly.proofs.Window.{window, window-length, window-store}
+use Rattle.storage.specs.Bytes.{two, inBytes, put}
+use Rattle.storage.proofs.PutLaws.{stores-two}
 use Rattle.reader.specs.Reading.{some-meets}
 use Rattle.reader.proofs.Searching.{meets, meets-none}
 
@@ -77,6 +78,16 @@ tab-take : (i : ℕ) (s : List ℕ) → i ≤ length s → tab i (λ j. getD s j
 tab-take i s le =
     tab-ext i _ _ (λ j l. sym (getD-take i s j 0 l))
     ∙ ap (λ (m : ℕ). tab m (λ j. getD (take i s) j 0)) (sym (length-take-le i s le)) ∙ tab-getD (take i s)
+
+-- a word more: e is the file so far
+pub words-more : (ws file e : List ℕ) (from i w : ℕ) → w ≡ getD ws i 0 → w < 65536 → from + (2 * i + 2) ≤ length file → e ≡ window from (2 * i) (λ j. getD (inBytes ws) j 0) file
+    → put (two w) (from + 2 * i) e ≡ window from (2 * (i + 1)) (λ j. getD (inBytes ws) j 0) file
+words-more ws file e from i w is low inside so-far =
+    sym (stores-two w (from + 2 * i) e (omega (arith, ap length so-far, window-length from (2 * i) (λ j. getD (inBytes ws) j 0) file (omega arith))) low)
+    ∙ window-store from (2 * i + 1) (from + 2 * i + 1) _ file (set e (from + 2 * i) (w / 256)) (w % 256) (omega arith) (omega arith)
+    (window-store from (2 * i) (from + 2 * i) _ file e (w / 256) refl (omega arith) so-far (omega (arith, first-byte ws i, is)))
+    (omega (arith, second-byte ws i, is))
+    ∙ ap (λ (m : ℕ). window from m (λ j. getD (inBytes ws) j 0) file) {x = 2 * i + 1 + 1} {y = 2 * (i + 1)} (omega arith)
 
 module _ (bytes file : List ℕ) (from i : ℕ) (inside : from + i ≤ length file) (le : i ≤ length bytes) where
   -- all of them

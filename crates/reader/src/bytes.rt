@@ -1,11 +1,13 @@
 // A decoded message as bytes of the file. No entry points and for this crate alone: the callers have made the checks.
 use field::inner::wide;
+use storage::inner::put_two;
 ghost use mathlib.Core.Path.{_≡_};
 ghost use mathlib.Core.Bool.{not};
 ghost use mathlib.Core.List.{_++_};
-ghost use Prim.Native.Nat.{ℕ, _+_, _*_, _-_, _<_};
+ghost use Prim.Native.Nat.{ℕ, _+_, _*_, _-_, _<_, _≤_};
 ghost use lib.Dec.{eqb};
 ghost use lib.ListN.{length, getD, take, drop};
+ghost use Rattle.poly.specs.Tab.{tab};
 ghost use Rattle.storage.specs.Bytes.{inBytes};
 ghost use Rattle.reader.specs.Reading.{some-meets, badWord};
 
@@ -47,7 +49,19 @@ pub fn bad_bytes(message: &[u32], from: usize) -> bool
     false
 }
 
-// The bytes of the message's words from an index of the file on, as many as there is room for.
+// The first words of the message, so many, from an index of the file on.
+fn lay_words(message: &[u32], count: usize, from: usize, file: &mut [u8])
+    requires { ⌜ (count ≤ length (now message)) × (from + 2 * count ≤ length (now file)) × ((j : ℕ) → j < length (now message) → getD (now message) j 0 < 65536) ⌝ }
+    ensures { λ _. ⌜ now (file .exit) ≡ take from (now (file .entry)) ++ (tab (2 * count) (λ j. getD (inBytes (now (message .entry))) j 0) ++ drop (from + 2 * count) (now (file .entry))) ⌝ }
+{
+    let mut i = 0;
+    while i < count {
+        put_two(file, from + 2 * i, wide(message[i]));
+        i += 1;
+    }
+}
+
+// The bytes of the message's words from an index of the file on, as many as there is room for, which may end with the first byte of a word.
 pub fn lay_bytes(message: &[u32], from: usize, file: &mut [u8])
     requires { ⌜ ((j : ℕ) → j < length (now message) → getD (now message) j 0 < 65536) ⌝ }
     ensures { λ _. ⌜ now (file .exit) ≡ take from (now (file .entry)) ++ (take (length (now (file .entry)) - from) (inBytes (now (message .entry))) ++ drop (from + 2 * length (now (message .entry))) (now (file .entry))) ⌝ }
@@ -55,12 +69,15 @@ pub fn lay_bytes(message: &[u32], from: usize, file: &mut [u8])
     if file.len() <= from {
         return;
     }
-    let mut i = 0;
-    while i < 2 * message.len() {
-        if file.len() - from <= i {
-            return;
-        }
-        file[from + i] = byte_of(message, i) as u8;
-        i += 1;
+    let whole = (file.len() - from) / 2;
+    if message.len() <= whole {
+        lay_words(message, message.len(), from, file);
+        return;
     }
+    lay_words(message, whole, from, file);
+    let end = from + 2 * whole;
+    if file.len() <= end {
+        return;
+    }
+    file[end] = byte_of(message, 2 * whole) as u8;
 }

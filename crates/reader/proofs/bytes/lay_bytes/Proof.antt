@@ -1,25 +1,17 @@
--- `reader::bytes::lay_bytes` meets its contract: the bytes passed stand in the file, the rest is as it was.
+-- `reader::bytes::lay_bytes` meets its contract: whole words are laid while there is room, and then a last byte where there is room for it.
 -- Assumes nothing.
 use mathlib.Core.Path.{_≡_, refl, ap, _∙_}
 use mathlib.Core.List.{List, _++_}
-use Prim.Native.Nat.{ℕ, _+_, _*_, _≤_, _-_}
+use Prim.Native.Nat.{ℕ, _+_, _*_, _-_, _/_}
 use native.Mathlib.Omega.{arith}
 use borrow.Author.Needs.{needs}
-use lib.ListN.{length, getD, take, drop}
-use Rattle.poly.proofs.Window.{window, window-none, window-store}
+use lib.ListN.{length, take, drop, length-set}
+use Rattle.poly.proofs.Window.{window, window-store}
 use Rattle.storage.specs.Bytes.{inBytes}
 use Rattle.storage.proofs.BytesLaws.{in-bytes-length}
 use Rattle.reader.proofs.MessageBytes.{laid-all, laid-full, laid-past}
 use Rattle.reader.proofs.bytes.lay_bytes.Statement.{statement}
 use Rattle.reader.proofs.bytes.lay_bytes.Tie as tie
-
-abbrev Inv-loop : tie.InvT-loop
-Inv-loop message from file₀ i₀ file i =
-    (i ≤ 2 * length message) × (from + i ≤ length file₀) × (length file ≡ length file₀)
-    × (file ≡ window from i (λ j. getD (inBytes message) j 0) file₀)
-
-abbrev μ-loop : tie.MeasureT-loop
-μ-loop message from file₀ i₀ file i = 2 * length message - i
 
 -- the bytes are twice as many as the words
 twice : (message file : List ℕ) (from : ℕ) (t : List ℕ) → t ≡ take from file ++ (take (length file - from) (inBytes message) ++ drop (from + length (inBytes message)) file)
@@ -28,39 +20,35 @@ twice message file from t is =
     is ∙ ap (λ (m : ℕ). take from file ++ (take (length file - from) (inBytes message) ++ drop (from + m) file)) (in-bytes-length message)
 
 pub lay-bytes-spec : {M : Type 1} → statement M
+unfolding window
 lay-bytes-spec =
     tie.close
     (tie.spec
-    Inv-loop
-    μ-loop
     (λ c.
-    let start = c .before .before .before in
+    let start = c .before .before .before in 
     laid-past (inBytes (start .args .message .now)) (start .args .file .now) (start .args .from) (2 * length (start .args .message .now)) (c .if1 .taken))
-    (λ c. (search needs, search needs, search needs, window-none _ _ _))
     (λ c. search needs)
-    (λ c. search needs)
-    (λ c. search needs)
+    (λ c κs. let start = c .before .before .before .before .before in (search needs, omega (arith, c .before .if2 .taken, c .before .before .if1 .left), start .pre))
+    (λ c. c .before .before .lay-words .kept .1 .1 .1 .0)
     (λ c.
-    let l = c .before .before .loop in
-    let start = c .before .before .before .before .before .before in
+    let start = c .before .before .before .before .before .before .before .before in 
     twice (start .args .message .now) (start .args .file .now) (start .args .from) _
-    (l .inv .3 ∙ laid-full (inBytes (start .args .message .now)) (start .args .file .now) (start .args .from) (l .i) (l .inv .1) (omega (arith, l .inv .0, in-bytes-length (start .args .message .now))) (omega (arith, l .inv .2, c .if2 .taken))))
-    (λ c κs. (search needs, c .before .before .before .before .before .before .pre))
-    (λ c. search needs)
-    (λ c. search needs)
-    (λ c. search needs)
-    (λ c. search needs)
-    (λ c. search needs)
+    (c .before .before .lay-words .ensures ∙ laid-all (inBytes (start .args .message .now)) (start .args .file .now) (start .args .from) (2 * length (start .args .message .now)) (omega (arith, c .before .before .before .before .if2 .taken, c .before .before .before .before .before .if1 .left)) (omega (arith, in-bytes-length (start .args .message .now))) (omega (arith, in-bytes-length (start .args .message .now)))))
+    (λ c κs. let start = c .before .before .before .before .before in (omega (arith, c .before .if2 .left), omega (arith, c .before .before .if1 .left), start .pre))
+    (λ c. let start = c .before .before .before .before .before .before .before .before in omega (arith, c .before .before .before .before .before .if1 .left))
+    (λ c. let start = c .before .before .before .before .before .before .before .before in omega (arith, c .before .before .before .before .before .if1 .left))
+    (λ c. c .before .before .before .lay-words2 .kept .1 .1 .1 .0)
     (λ c.
-    let l = c .before .before .before .loop in (
-      search needs,
-      search needs,
-      search needs,
-      window-store (c .before .before .before .before .before .before .before .args .from) (l .i) _ _ _ (l .file) _ refl (search needs) (l .inv .3) (c .byte-of .ensures .0),
-    ))
-    (λ c. search needs)
-    (λ c.
-    let l = c .before .loop in
-    let start = c .before .before .before .before .before in
+    let start = c .before .before .before .before .before .before .before .before .before in 
     twice (start .args .message .now) (start .args .file .now) (start .args .from) _
-    (l .inv .3 ∙ laid-all (inBytes (start .args .message .now)) (start .args .file .now) (start .args .from) (l .i) (l .inv .1) (omega (arith, l .inv .0, in-bytes-length (start .args .message .now))) (omega (arith, c .loop-test .left, in-bytes-length (start .args .message .now))))))
+    (c .before .before .before .lay-words2 .ensures ∙ laid-full (inBytes (start .args .message .now)) (start .args .file .now) (start .args .from) (2 * ((length (start .args .file .now) - start .args .from) / 2)) (omega (arith, c .before .before .before .before .before .before .if1 .left)) (omega (arith, in-bytes-length (start .args .message .now), c .before .before .before .before .before .if2 .left)) (omega (arith, c .if3 .taken, c .before .before .before .lay-words2 .kept .1 .1 .1 .0))))
+    (λ c. search needs)
+    (λ c κs. let start = c .before .before .before .before .before .before .before .before .before in (omega (arith, c .before .before .before .before .before .if2 .left), start .pre))
+    (λ c. search needs)
+    (λ c. let start = c .before .before .before .before .before .before .before .before .before .before in omega (arith, c .before .if3 .left))
+    (λ c. length-set (c .before .before .before .before .lay-words2 .last .1 .1 .1 .0) _ _ ∙ c .before .before .before .before .lay-words2 .kept .1 .1 .1 .0)
+    (λ c.
+    let start = c .before .before .before .before .before .before .before .before .before .before in 
+    twice (start .args .message .now) (start .args .file .now) (start .args .from) _
+    (window-store (start .args .from) (2 * ((length (start .args .file .now) - start .args .from) / 2)) _ _ (start .args .file .now) (c .before .before .before .before .lay-words2 .last .1 .1 .1 .0) _ refl (omega (arith, c .before .if3 .left, c .before .before .before .before .lay-words2 .kept .1 .1 .1 .0)) (c .before .before .before .before .lay-words2 .ensures) (c .byte-of .ensures .0)
+    ∙ laid-full (inBytes (start .args .message .now)) (start .args .file .now) (start .args .from) (2 * ((length (start .args .file .now) - start .args .from) / 2) + 1) (omega (arith, c .before .if3 .left, c .before .before .before .before .lay-words2 .kept .1 .1 .1 .0)) (omega (arith, in-bytes-length (start .args .message .now), c .before .before .before .before .before .before .if2 .left)) (omega (arith, c .before .before .before .before .before .before .before .if1 .left)))))

@@ -4,3 +4,7 @@ pub mod Quarters
 pub mod Runs
 pub mod Repeating
 pub mod Filling
+pub mod Padding
+pub mod Lending
+pub mod Wrapping
+pub mod Unwrapping

@@ -1,3 +1,4 @@
 // The product of X - z over a list of points, from the products over its halves: what the decoder needs of the points that it holds.
 mod moving;
 mod sums;
+mod transforms;

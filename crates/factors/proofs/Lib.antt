@@ -8,3 +8,4 @@ pub mod Padding
 pub mod Lending
 pub mod Wrapping
 pub mod Unwrapping
+pub mod Joining

@@ -1,0 +1,11 @@
+pub mod Times
+pub mod Lowers
+pub mod Quarters
+pub mod Runs
+pub mod Repeating
+pub mod Filling
+pub mod Padding
+pub mod Lending
+pub mod Wrapping
+pub mod Unwrapping
+pub mod Joining

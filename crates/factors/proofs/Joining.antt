@@ -1,42 +1,27 @@
 -- The product over a list of points from the products over its halves, as the cells hold it step by step.
 -- Assumes nothing.
 use mathlib.Core.Path.{_≡_, sym, ap, ap₂, subst, _∙_}
-use mathlib.Core.List.{List, [], _∷_, _++_}
+use mathlib.Core.List.{List, _++_}
 use Prim.Native.Nat.{ℕ, _+_, _*_, _/_, _<_, _≤_}
 use native.Mathlib.Omega.{arith}
-use lib.ListN.{length, getD, take, drop, set, length-drop}
+use lib.ListN.{length, getD, take, drop, length-drop}
 use lib.Seq.{length-take-le, getD-take, getD-drop, take-add, take-append-le, drop-at}
-use Rattle.field.specs.Field.{difference}
 use Rattle.field.specs.Size.{sizeOf}
 use Rattle.field.specs.Symbol.{Symbols}
 use Rattle.poly.proofs.Symbols.{symbols-at}
 use Rattle.factors.specs.Factors.{lowersOf, monicTimes}
 use Rattle.factors.specs.Halves.{HalfReady, TwoFactors, left, right, repeated}
 use Rattle.factors.proofs.Lending.{first, second, after, first-length, first-front, second-length, second-front, after-is, after-length}
-use Rattle.factors.proofs.Lowers.{lowers-single, lowers-symbols, lowers-append}
-use Rattle.factors.proofs.Quarters.{Quarters, quarters-of, even-of, left-length, right-length}
+use Rattle.factors.proofs.Lowers.{lowers-symbols, lowers-append}
+use Rattle.factors.proofs.Quarters.{Quarters, quarters-of, left-length, right-length}
 use Rattle.factors.proofs.Repeating.{repeated-before, repeated-there}
 
 -- a point is a symbol
-pub point-small : (d : List ℕ) → HalfReady d → (i : ℕ) → i < length d / 2 → getD d i 0 < 65537
+point-small : (d : List ℕ) → HalfReady d → (i : ℕ) → i < length d / 2 → getD d i 0 < 65537
 point-small d good i h =
     rw (getD-take (length d / 2) d i 0 h) at (good .2 i (omega (arith, length-take-le (length d / 2) d (omega arith))))
 
--- A single point
-
-pub single-done : (d : List ℕ) → HalfReady d → length d < 4 → (v : ℕ) → v ≡ difference 0 (getD d 0 0)
-    → take (length d / 2) (set d 0 v) ≡ lowersOf (take (length d / 2) d)
-single-done [] good few v is = absurd (omega (arith, good .1))
-single-done (x ∷ s) good few v is =
-    ap (λ (n : ℕ). take n (v ∷ s)) one
-    ∙ ap (_∷ []) is
-    ∙ sym (lowers-single x)
-    ∙ ap (λ (n : ℕ). lowersOf (take n (x ∷ s))) (sym one)
-  where
-    one : length (x ∷ s) / 2 ≡ 1
-    one = omega (arith, even-of (x ∷ s) (good .0) (good .1), good .1)
-
--- More points: e is d with the second half of the points at the front of the second half of the cells
+-- e is d with the second half of the points at the front of the second half of the cells
 
 module _ (d : List ℕ) (good : HalfReady d) (many : 4 ≤ length d) (e : List ℕ) (kept : length e ≡ length d) (spread : e ≡ repeated (length d / 4) (length d / 4 * 2) (length d / 4) d) where
   q : Quarters d

@@ -1,8 +1,9 @@
 pub mod Times
 pub mod Lowers
 pub mod Quarters
-pub mod Runs
 pub mod Repeating
+pub mod Stepping
+pub mod Runs
 pub mod Filling
 pub mod Padding
 pub mod Lending

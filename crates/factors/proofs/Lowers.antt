@@ -8,13 +8,10 @@ use native.Mathlib.Omega.{arith}
 use lib.ListN.{length, take, length-append}
 use lib.Seq.{length-take-le}
 use Rattle.field.specs.Congruence.{_≈_}
-use Rattle.field.specs.Field.{difference}
-use Rattle.field.proofs.Congruence.{≈-refl, ≈-of, _∘≈_, _+≈_, _·≈_, reduced}
-use Rattle.field.proofs.Ring.{product-≈}
+use Rattle.field.proofs.Congruence.{≈-of, _∘≈_, reduced}
 use Rattle.poly.specs.Distinct.{Distinct}
 use Rattle.poly.specs.Every.{Every}
-use Rattle.poly.specs.Products.{times, vanishing}
-use Rattle.poly.specs.Raised.{raised}
+use Rattle.poly.specs.Products.{vanishing}
 use Rattle.poly.specs.Tab.{tab}
 use Rattle.poly.specs.Value.{value}
 use Rattle.poly.proofs.Distinct.{distinct-tab}
@@ -45,11 +42,6 @@ lowers-value zs x =
     ap (λ (s : List ℕ). value s x) (lowers-whole zs)
     ∙ value-append (lowersOf zs) (1 ∷ []) x
     ∙ rw lowers-length (omega arith)
-
--- of one point z: minus z
-pub lowers-single : (z : ℕ) → lowersOf (z ∷ []) ≡ difference 0 z ∷ []
-unfolding lowersOf vanishing times raised difference
-lowers-single z = ap (_∷ []) ((≈-refl +≈ 65536 ·≈ (product-≈ z 1 ∘≈ ≈-of (omega arith))) .mods)
 
 -- 0, 1, 2 and so on, as many as there are symbols
 apart : (n : ℕ) → n ≤ 65537 → Distinct (tab n (λ i. i))

@@ -1,0 +1,12 @@
+pub mod Times
+pub mod Lowers
+pub mod Quarters
+pub mod Repeating
+pub mod Stepping
+pub mod Runs
+pub mod Filling
+pub mod Padding
+pub mod Lending
+pub mod Wrapping
+pub mod Unwrapping
+pub mod Joining

@@ -1,0 +1,28 @@
+-- What the inner functions ask of lent cells, and where in them two lists stand that are to be multiplied.
+use mathlib.Core.Path.{_≡_}
+use mathlib.Core.List.{List, _++_}
+use Prim.Native.Nat.{ℕ, _+_, _/_, _≤_}
+use lib.ListN.{length, take, drop}
+use Rattle.field.specs.Size.{sizeOf}
+use Rattle.field.specs.Symbol.{Symbols}
+
+-- a power of two of cells, with symbols in the front half
+abbrev pub HalfReady : List ℕ → Type 0
+HalfReady d = (length d ≡ sizeOf (length d)) × (2 ≤ length d) × Symbols (take (length d / 2) d)
+
+-- the lists at the front of each half
+abbrev pub left : List ℕ → List ℕ
+left d = take (length d / 4) d
+
+abbrev pub right : List ℕ → List ℕ
+right d = take (length d / 4) (drop (length d / 2) d)
+
+pub record TwoFactors (d : List ℕ) : Type 0 where
+  pub size : length d ≡ sizeOf (length d)
+  pub many : 4 ≤ length d
+  pub first : Symbols (left d)
+  pub second : Symbols (right d)
+
+-- n numbers stand at another place too
+abbrev pub repeated : ℕ → ℕ → ℕ → List ℕ → List ℕ
+repeated from to n d = take to d ++ (take n (drop from d) ++ drop (to + n) d)

@@ -1,21 +1,35 @@
 -- The working space before the first block: the shadows laid one after the other, and what the preparation leaves.
 -- Assumes nothing.
 use mathlib.Core.Path.{_≡_, subst, sym, ap, ap₂, _∙_}
-use mathlib.Core.List.{List, []}
-use Prim.Native.Nat.{ℕ, suc, _+_, _*_, _<_}
+use mathlib.Core.List.{List, [], _++_}
+use Prim.Native.Nat.{ℕ, suc, _+_, _*_, _-_, _<_, _≤_}
 use native.Mathlib.Decide.{decLt}
+use native.Mathlib.Nat.{zero-add}
 use native.Mathlib.Numerals.{add-one}
 use native.Mathlib.Omega.{arith}
-use lib.ListN.{length, getD, set, length-set}
-use lib.Seq.{getD-set-same, getD-set-other}
+use lib.ListN.{length, getD, take, drop, set, length-set, length-drop}
+use lib.Seq.{length-take-le, getD-set-same, getD-set-other, getD-take, getD-drop, drop-drop, ext-getD}
+use Rattle.field.specs.Congruence.{_≈_}
 use Rattle.field.specs.Refusals.{result}
 use Rattle.field.specs.Size.{sizeOf}
+use Rattle.poly.specs.Products.{vanishing}
+use Rattle.poly.specs.Tab.{tab}
+use Rattle.poly.specs.Value.{value}
+use Rattle.poly.proofs.Tab.{tab-getD}
+use Rattle.poly.proofs.Window.{window, window-length, window-before, window-at, window-past}
+use Rattle.coset.specs.Between.{between}
+use Rattle.coset.proofs.Room.{power-at}
+use Rattle.divide.specs.Dividing.{Inverses}
+use Rattle.missing.specs.Missing.{missing, weights}
+use Rattle.prepare.specs.Prepared.{Prepared}
 use Rattle.storage.specs.Storage.{wordsAt}
 use Rattle.storage.proofs.Cursors.{cursor-first}
-use Rattle.layout.specs.Fields.{nIn, heldIn, positionIn, countIn, offsetIn}
+use Rattle.layout.specs.Fields.{kIn, nIn, heldIn, positionIn, countIn, offsetIn}
 use Rattle.layout.specs.Layout.{layoutChecks}
-use Rattle.gathering.specs.Gathering.{wordsHeld, cursorHeld, Shadows}
-use Rattle.gathering.proofs.Kept.{held-room}
+use Rattle.layout.specs.Rooms.{workRoom}
+use Rattle.gathering.specs.Gathering.{marksIn, missingIn, wordsHeld, cursorHeld, Shadows, Laid}
+use Rattle.gathering.proofs.Kept.{held-room, size-order}
+use Rattle.gathering.proofs.Marking.{marks-long}
 
 -- One shadow, from what the code has read
 
@@ -108,3 +122,132 @@ module _ (s : List ℕ) (good : layoutChecks s ≡ result []) (t size : ℕ) (h 
 
       part′ : (a i : ℕ) → getD cells (a * sizeOf (nIn s) + i) 0 ≡ getD cells (a * size + i) 0
       part′ a i = ap (λ (N : ℕ). getD cells (a * N + i) 0) (sym size-is)
+
+-- What the preparation leaves
+
+-- a part that is replaced by another as long, and one in front
+
+part-window : (at e : ℕ) (l m : List ℕ) → length m ≡ e - at → take at l ++ (m ++ drop (e - at) (drop at l)) ≡ window at (e - at) (λ j. getD m j 0) l
+unfolding window
+part-window at e l m long =
+    ap₂ (λ (x y : List ℕ). take at l ++ (x ++ y)) (sym (tab-getD m) ∙ ap (λ (n : ℕ). tab n (λ j. getD m j 0)) long) (drop-drop (e - at) at l)
+
+front-window : (e : ℕ) (l m : List ℕ) → length m ≡ e → m ++ drop e l ≡ window 0 e (λ j. getD m j 0) l
+unfolding window
+front-window e l m long =
+    ap₂ (λ (x : List ℕ) (n : ℕ). x ++ drop n l) (sym (tab-getD m) ∙ ap (λ (n : ℕ). tab n (λ j. getD m j 0)) long) (sym (zero-add e))
+
+module _ (s : List ℕ) (good : layoutChecks s ≡ result []) (laid marks : List ℕ) (long : length laid ≡ 8 * sizeOf (nIn s)) (is-marks : marks ≡ marksIn s (heldIn s)) where
+  -- with the marks
+  marked-cells : List ℕ
+  marked-cells = take (2 * sizeOf (nIn s)) laid ++ (marks ++ drop (3 * sizeOf (nIn s) - 2 * sizeOf (nIn s)) (drop (2 * sizeOf (nIn s)) laid))
+
+  third : 3 * sizeOf (nIn s) - 2 * sizeOf (nIn s) ≡ sizeOf (nIn s)
+  third = omega arith
+
+  marks-size : length marks ≡ 3 * sizeOf (nIn s) - 2 * sizeOf (nIn s)
+  marks-size = ap length is-marks ∙ marks-long s (heldIn s) ∙ sym third
+
+  marked-window : marked-cells ≡ window (2 * sizeOf (nIn s)) (3 * sizeOf (nIn s) - 2 * sizeOf (nIn s)) (λ j. getD marks j 0) laid
+  unfolding marked-cells
+  marked-window = part-window (2 * sizeOf (nIn s)) (3 * sizeOf (nIn s)) laid marks marks-size
+
+  marked-long : length marked-cells ≡ 8 * sizeOf (nIn s)
+  marked-long = ap length marked-window ∙ window-length (2 * sizeOf (nIn s)) _ (λ j. getD marks j 0) laid (omega (arith, third, long)) ∙ long
+
+  marks-there : take (sizeOf (nIn s)) (drop (2 * sizeOf (nIn s)) (take (4 * sizeOf (nIn s) - 0) marked-cells)) ≡ marksIn s (heldIn s)
+  marks-there = ext-getD 0 _ _ (size ∙ sym (marks-long s (heldIn s))) each
+    where
+      size : length (take (sizeOf (nIn s)) (drop (2 * sizeOf (nIn s)) (take (4 * sizeOf (nIn s) - 0) marked-cells))) ≡ sizeOf (nIn s)
+      size =
+          length-take-le (sizeOf (nIn s)) _
+          (omega (arith, length-drop (2 * sizeOf (nIn s)) (take (4 * sizeOf (nIn s) - 0) marked-cells), length-take-le (4 * sizeOf (nIn s) - 0) marked-cells (omega (arith, marked-long))))
+
+      each : (i : ℕ) → i < length (take (sizeOf (nIn s)) (drop (2 * sizeOf (nIn s)) (take (4 * sizeOf (nIn s) - 0) marked-cells)))
+          → getD (take (sizeOf (nIn s)) (drop (2 * sizeOf (nIn s)) (take (4 * sizeOf (nIn s) - 0) marked-cells))) i 0 ≡ getD (marksIn s (heldIn s)) i 0
+      each i h =
+          let less : i < sizeOf (nIn s) = omega (arith, h, size) in
+          getD-take (sizeOf (nIn s)) _ i 0 less ∙ getD-drop (2 * sizeOf (nIn s)) (take (4 * sizeOf (nIn s) - 0) marked-cells) i 0
+          ∙ getD-take (4 * sizeOf (nIn s) - 0) marked-cells (2 * sizeOf (nIn s) + i) 0 (omega (arith, less))
+          ∙ ap (λ (l : List ℕ). getD l (2 * sizeOf (nIn s) + i) 0) marked-window
+          ∙ window-at (2 * sizeOf (nIn s)) (3 * sizeOf (nIn s) - 2 * sizeOf (nIn s)) i (λ j. getD marks j 0) laid (omega (arith, third, less)) (omega (arith, long))
+          ∙ ap (λ (l : List ℕ). getD l i 0) is-marks
+
+  -- ready is what the preparation leaves of its part
+  module _ (shadows : Shadows s (heldIn s) laid) (ready : List ℕ) (same : length ready ≡ length (take (4 * sizeOf (nIn s) - 0) marked-cells)) where
+    ready-cells : List ℕ
+    ready-cells = ready ++ drop (4 * sizeOf (nIn s) - 0) marked-cells
+
+    half : 4 * sizeOf (nIn s) - 0 ≡ 4 * sizeOf (nIn s)
+    half = omega arith
+
+    ready-window : ready-cells ≡ window 0 (4 * sizeOf (nIn s) - 0) (λ j. getD ready j 0) marked-cells
+    unfolding ready-cells
+    ready-window = front-window (4 * sizeOf (nIn s) - 0) marked-cells ready (same ∙ length-take-le (4 * sizeOf (nIn s) - 0) marked-cells (omega (arith, marked-long)))
+
+    ready-long : length ready-cells ≡ 8 * sizeOf (nIn s)
+    ready-long = ap length ready-window ∙ window-length 0 _ (λ j. getD ready j 0) marked-cells (omega (arith, half, marked-long)) ∙ marked-long
+
+    -- in front, and behind
+    ready-front : (i : ℕ) → i < 4 * sizeOf (nIn s) → getD ready-cells i 0 ≡ getD ready i 0
+    ready-front i l =
+        ap₂ (λ (l : List ℕ) (j : ℕ). getD l j 0) ready-window (sym (zero-add i))
+        ∙ window-at 0 (4 * sizeOf (nIn s) - 0) i (λ j. getD ready j 0) marked-cells (omega (arith, half, l)) (omega arith)
+
+    ready-back : (i : ℕ) → 4 * sizeOf (nIn s) ≤ i → getD ready-cells i 0 ≡ getD laid i 0
+    ready-back i l =
+        ap (λ (l : List ℕ). getD l i 0) ready-window
+        ∙ window-past 0 (4 * sizeOf (nIn s) - 0) i (λ j. getD ready j 0) marked-cells (omega (arith, half, l)) (omega arith)
+        ∙ ap (λ (l : List ℕ). getD l i 0) marked-window
+        ∙ window-past (2 * sizeOf (nIn s)) (3 * sizeOf (nIn s) - 2 * sizeOf (nIn s)) i (λ j. getD marks j 0) laid (omega (arith, third, l)) (omega (arith, long))
+
+    module _ (count : ℕ) (prepared : Prepared (kIn s) (nIn s) (take (sizeOf (nIn s)) (drop (2 * sizeOf (nIn s)) (take (4 * sizeOf (nIn s) - 0) marked-cells))) count ready)
+        (now : List ℕ) (is : now ≡ window (4 * sizeOf (nIn s)) (sizeOf (nIn s)) (λ j. getD ready-cells j 0) ready-cells) where
+      points : missing (sizeOf (nIn s)) (take (sizeOf (nIn s)) (drop (2 * sizeOf (nIn s)) (take (4 * sizeOf (nIn s) - 0) marked-cells))) ≡ missingIn s
+      unfolding missingIn
+      points = ap (missing (sizeOf (nIn s))) marks-there
+
+      count-is : count ≡ length (missingIn s)
+      count-is = prepared .counted ∙ ap length points
+
+      front : (i : ℕ) → i < 4 * sizeOf (nIn s) → getD now i 0 ≡ getD ready i 0
+      front i l =
+          ap (λ (l : List ℕ). getD l i 0) is ∙ window-before (4 * sizeOf (nIn s)) (sizeOf (nIn s)) i _ ready-cells l (omega (arith, ready-long)) ∙ ready-front i l
+
+      back : (i : ℕ) → 5 * sizeOf (nIn s) ≤ i → getD now i 0 ≡ getD laid i 0
+      back i l =
+          ap (λ (l : List ℕ). getD l i 0) is
+          ∙ window-past (4 * sizeOf (nIn s)) (sizeOf (nIn s)) i _ ready-cells (omega (arith, l)) (omega (arith, ready-long)) ∙ ready-back i (omega (arith, l))
+
+      weight : (j : ℕ) → j < sizeOf (nIn s) → getD now (4 * sizeOf (nIn s) + j) 0 ≡ getD (weights (sizeOf (nIn s)) (missingIn s)) j 0
+      weight j l =
+          ap (λ (l : List ℕ). getD l (4 * sizeOf (nIn s) + j) 0) is
+          ∙ window-at (4 * sizeOf (nIn s)) (sizeOf (nIn s)) j _ ready-cells l (omega (arith, ready-long))
+          ∙ ready-front j (omega (arith, l))
+          ∙ sym (getD-take (sizeOf (nIn s)) ready j 0 l)
+          ∙ ap (λ (l : List ℕ). getD l j 0) (prepared .weighs ∙ ap (weights (sizeOf (nIn s))) points)
+
+      inverse : 0 < length (missingIn s) → Inverses (sizeOf (nIn s)) (sizeOf (kIn s)) (missingIn s) (drop (2 * sizeOf (nIn s)) now)
+      inverse lost =
+          record {
+            at = λ i l. subst (λ (x : ℕ). sizeOf (nIn s) * sizeOf (kIn s) * value (vanishing (missingIn s)) (between (sizeOf (nIn s)) (sizeOf (kIn s)) i) * x ≈ 1)
+                (getD-drop (2 * sizeOf (nIn s)) ready i 0 ∙ sym (front (2 * sizeOf (nIn s) + i) (omega (arith, l, size-order s good))) ∙ sym (getD-drop (2 * sizeOf (nIn s)) now i 0))
+                (subst (λ (zs : List ℕ). Inverses (sizeOf (nIn s)) (sizeOf (kIn s)) zs (drop (2 * sizeOf (nIn s)) ready)) points (prepared .inverses (omega (arith, lost, count-is))) .at i l);
+          }
+
+      laid-first : (count ≡ length (missingIn s)) × Laid s 0 now
+      unfolding workRoom
+      laid-first = (
+        count-is,
+        record {
+          fixed = record {
+            long = ap length is ∙ window-length (4 * sizeOf (nIn s)) (sizeOf (nIn s)) _ ready-cells (omega (arith, ready-long)) ∙ ready-long;
+            inverses = inverse;
+            powers = λ j l. front (3 * sizeOf (nIn s) + j) (omega (arith, l)) ∙ power-at (sizeOf (nIn s)) ready (prepared .table) j l;
+            weighs = weight;
+            words = λ t h. back (5 * sizeOf (nIn s) + t) (omega arith) ∙ shadows .words t h;
+            positions = λ t h. back (7 * sizeOf (nIn s) + t) (omega arith) ∙ shadows .positions t h;
+          };
+          cursors = λ t h. back (6 * sizeOf (nIn s) + t) (omega arith) ∙ shadows .cursors t h;
+        },
+      )

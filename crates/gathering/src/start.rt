@@ -9,6 +9,7 @@ use layout::inner::k_in;
 use layout::inner::n_in;
 use layout::inner::offset_in;
 use layout::inner::position_in;
+use prepare::inner::prepare;
 use storage::inner::words_at;
 ghost use mathlib.Core.Path.{_≡_};
 ghost use mathlib.Core.List.{[], _++_};
@@ -69,4 +70,21 @@ fn keep_weights(size: usize, cells: &mut [u32])
         cells[from + j] = cells[j];
         j += 1;
     }
+}
+
+// Every cursor at the front of its list; what is returned is how many positions are missing.
+pub fn start(bundle: &[u8], cells: &mut [u32]) -> usize
+    requires { ⌜ (layoutChecks (now bundle) ≡ result []) × (length (now cells) ≡ workRoom (nIn (now bundle))) ⌝ }
+    ensures { λ r. ⌜ (r ≡ length (missingIn (now (bundle .entry)))) × Laid (now (bundle .entry)) 0 (now (cells .exit)) ⌝ }
+{
+    let n = n_in(bundle);
+    let size = size(n);
+    let marks = 2 * size;
+    let powers = 3 * size;
+    let weights = 4 * size;
+    lay_shadows(bundle, size, cells);
+    mark_held(bundle, &mut cells[marks..powers]);
+    let missing = prepare(k_in(bundle), n, &mut cells[0..weights]);
+    keep_weights(size, cells);
+    missing
 }

@@ -1,0 +1,4 @@
+pub mod Weighing
+pub mod Multiplying
+pub mod Preparing
+pub mod Finishing

@@ -1,24 +1,43 @@
 -- The marks of the held positions mark them all and no other.
 -- Assumes nothing.
-use mathlib.Core.Path.{_≡_, sym, ap, ap₂, _∙_}
-use mathlib.Core.List.{List, []}
-use Prim.Native.Nat.{ℕ, zero, suc, _+_, _<_, _≤_}
+use mathlib.Core.Path.{_≡_, refl, sym, ap, ap₂, _∙_}
+use mathlib.Core.Bool.{Bool, true, false, cond}
+use mathlib.Core.List.{List, [], _∷_}
+use Prim.Native.Nat.{ℕ, zero, suc, _+_, _<_, _≤_, suc-le-suc}
 use native.Mathlib.Decide.{decLt, ℕ-discrete}
-use native.Mathlib.Nat.{not-suc-le-zero, lt-of-lt-of-le}
+use native.Mathlib.Nat.{not-suc-le-zero, lt-of-lt-of-le, le-of-eq}
 use native.Mathlib.Numerals.{add-one}
 use native.Mathlib.Omega.{arith}
+use borrow.Author.Tests.{ne-eqb}
+use lib.Dec.{eqb}
 use lib.ListN.{length, getD, set, length-set, length-replicate, replicate, getD-replicate}
 use lib.Seq.{getD-set-same, getD-set-other}
+use Rattle.field.specs.Points.{pointOf}
 use Rattle.field.specs.Refusals.{result}
 use Rattle.field.specs.Size.{sizeOf}
 use Rattle.poly.specs.Tab.{tab}
 use Rattle.poly.proofs.Tab.{tab-length, tab-at}
-use Rattle.missing.specs.Missing.{Marks}
+use Rattle.missing.specs.Missing.{Marks, unmarked}
+use Rattle.missing.proofs.Laying.{unmarked-le}
 use Rattle.layout.specs.Fields.{nIn, heldIn, positionIn}
 use Rattle.layout.specs.Layout.{layoutChecks}
 use Rattle.layout.proofs.Passing.{position-below, position-after}
-use Rattle.gathering.specs.Gathering.{marksIn}
+use Rattle.gathering.specs.Gathering.{marksIn, missingIn}
 use Rattle.gathering.proofs.Kept.{n-in-size}
+
+-- a mark leaves one point fewer
+unmarked-fewer : (N : ℕ) (marks : List ℕ) (b j : ℕ) → j < b → ¬ (getD marks j 0 ≡ 0) → length (unmarked N marks b) < b
+unfolding unmarked
+unmarked-fewer N marks zero j h held = absurd (not-suc-le-zero h)
+unmarked-fewer N marks (suc b) j h held =
+    elim (decLt j b) [
+      | yes l ↦ more (eqb (getD marks b 0) 0) (unmarked-fewer N marks b j l held)
+      | no g ↦ rw (ne-eqb (getD marks b 0) 0 (λ free. held (ap (λ (i : ℕ). getD marks i 0) {x = j} {y = b} (omega (arith, g, h)) ∙ free))) (suc-le-suc (unmarked-le N marks b))
+    ]
+  where
+    more : (t : Bool) → length (unmarked N marks b) < b → length (cond t (pointOf N b ∷ unmarked N marks b) (unmarked N marks b)) < suc b
+    more true less = suc-le-suc less
+    more false less = omega (arith, less)
 
 module _ (s : List ℕ) where
   pub marks-long : (t : ℕ) → length (marksIn s t) ≡ sizeOf (nIn s)
@@ -90,3 +109,10 @@ module _ (s : List ℕ) where
         found : (j : ℕ) → ((t : ℕ) × (t < heldIn s) × (positionIn s t ≡ j))
             → (t : ℕ) × (t < length (tab (heldIn s) (positionIn s))) × (getD (tab (heldIn s) (positionIn s)) t 0 ≡ j)
         found j (t, h, is) = (t, omega (arith, h, tab-length (heldIn s) (positionIn s)), tab-at (heldIn s) (positionIn s) t h ∙ is)
+
+    -- where a shadow is held a position is not missing
+    pub missing-fewer : 0 < heldIn s → length (missingIn s) < sizeOf (nIn s)
+    unfolding missingIn
+    missing-fewer h =
+        unmarked-fewer (sizeOf (nIn s)) (marksIn s (heldIn s)) (sizeOf (nIn s)) (positionIn s 0) (position-inside 0 h)
+        (λ free. omega (arith, free, marks-held (heldIn s) 0 (le-of-eq refl) h))

@@ -1,6 +1,7 @@
 -- The working space before the first block: the shadows laid one after the other, and what the preparation leaves.
 -- Assumes nothing.
 use mathlib.Core.Path.{_≡_, subst, sym, ap, ap₂, _∙_}
+use mathlib.Core.Bool.{false}
 use mathlib.Core.List.{List, [], _++_}
 use Prim.Native.Nat.{ℕ, suc, _+_, _*_, _-_, _<_, _≤_}
 use native.Mathlib.Decide.{decLt}
@@ -11,6 +12,7 @@ use lib.ListN.{length, getD, take, drop, set, length-set, length-drop}
 use lib.Seq.{length-take-le, getD-set-same, getD-set-other, getD-take, getD-drop, drop-drop, ext-getD}
 use Rattle.field.specs.Congruence.{_≈_}
 use Rattle.field.specs.Refusals.{result}
+use Rattle.field.specs.Shape.{badShape}
 use Rattle.field.specs.Size.{sizeOf}
 use Rattle.poly.specs.Products.{vanishing}
 use Rattle.poly.specs.Tab.{tab}
@@ -27,9 +29,10 @@ use Rattle.storage.proofs.Cursors.{cursor-first}
 use Rattle.layout.specs.Fields.{kIn, nIn, heldIn, positionIn, countIn, offsetIn}
 use Rattle.layout.specs.Layout.{layoutChecks}
 use Rattle.layout.specs.Rooms.{workRoom}
+use Rattle.layout.proofs.Passing.{shape-passed, k-some}
 use Rattle.gathering.specs.Gathering.{marksIn, missingIn, wordsHeld, cursorHeld, Shadows, Laid}
 use Rattle.gathering.proofs.Kept.{held-room, size-order}
-use Rattle.gathering.proofs.Marking.{marks-long}
+use Rattle.gathering.proofs.Marking.{marks-long, missing-fewer}
 
 -- One shadow, from what the code has read
 
@@ -137,10 +140,17 @@ unfolding window
 front-window e l m long =
     ap₂ (λ (x : List ℕ) (n : ℕ). x ++ drop n l) (sym (tab-getD m) ∙ ap (λ (n : ℕ). tab n (λ j. getD m j 0)) long) (sym (zero-add e))
 
+-- the cells with the marks, and with what the preparation leaves
+
+abbrev withMarks : ℕ → List ℕ → List ℕ → List ℕ
+withMarks N cells marks = take (2 * N) cells ++ (marks ++ drop (3 * N - 2 * N) (drop (2 * N) cells))
+
+abbrev withFront : ℕ → List ℕ → List ℕ → List ℕ
+withFront N cells front = front ++ drop (4 * N - 0) cells
+
 module _ (s : List ℕ) (good : layoutChecks s ≡ result []) (laid marks : List ℕ) (long : length laid ≡ 8 * sizeOf (nIn s)) (is-marks : marks ≡ marksIn s (heldIn s)) where
-  -- with the marks
   marked-cells : List ℕ
-  marked-cells = take (2 * sizeOf (nIn s)) laid ++ (marks ++ drop (3 * sizeOf (nIn s) - 2 * sizeOf (nIn s)) (drop (2 * sizeOf (nIn s)) laid))
+  marked-cells = withMarks (sizeOf (nIn s)) laid marks
 
   third : 3 * sizeOf (nIn s) - 2 * sizeOf (nIn s) ≡ sizeOf (nIn s)
   third = omega arith
@@ -173,10 +183,14 @@ module _ (s : List ℕ) (good : layoutChecks s ≡ result []) (laid marks : List
           ∙ window-at (2 * sizeOf (nIn s)) (3 * sizeOf (nIn s) - 2 * sizeOf (nIn s)) i (λ j. getD marks j 0) laid (omega (arith, third, less)) (omega (arith, long))
           ∙ ap (λ (l : List ℕ). getD l i 0) is-marks
 
+  points : missing (sizeOf (nIn s)) (take (sizeOf (nIn s)) (drop (2 * sizeOf (nIn s)) (take (4 * sizeOf (nIn s) - 0) marked-cells))) ≡ missingIn s
+  unfolding missingIn
+  points = ap (missing (sizeOf (nIn s))) marks-there
+
   -- ready is what the preparation leaves of its part
   module _ (shadows : Shadows s (heldIn s) laid) (ready : List ℕ) (same : length ready ≡ length (take (4 * sizeOf (nIn s) - 0) marked-cells)) where
     ready-cells : List ℕ
-    ready-cells = ready ++ drop (4 * sizeOf (nIn s) - 0) marked-cells
+    ready-cells = withFront (sizeOf (nIn s)) marked-cells ready
 
     half : 4 * sizeOf (nIn s) - 0 ≡ 4 * sizeOf (nIn s)
     half = omega arith
@@ -203,10 +217,6 @@ module _ (s : List ℕ) (good : layoutChecks s ≡ result []) (laid marks : List
 
     module _ (count : ℕ) (prepared : Prepared (kIn s) (nIn s) (take (sizeOf (nIn s)) (drop (2 * sizeOf (nIn s)) (take (4 * sizeOf (nIn s) - 0) marked-cells))) count ready)
         (now : List ℕ) (is : now ≡ window (4 * sizeOf (nIn s)) (sizeOf (nIn s)) (λ j. getD ready-cells j 0) ready-cells) where
-      points : missing (sizeOf (nIn s)) (take (sizeOf (nIn s)) (drop (2 * sizeOf (nIn s)) (take (4 * sizeOf (nIn s) - 0) marked-cells))) ≡ missingIn s
-      unfolding missingIn
-      points = ap (missing (sizeOf (nIn s))) marks-there
-
       count-is : count ≡ length (missingIn s)
       count-is = prepared .counted ∙ ap length points
 
@@ -251,3 +261,50 @@ module _ (s : List ℕ) (good : layoutChecks s ≡ result []) (laid marks : List
           cursors = λ t h. back (6 * sizeOf (nIn s) + t) (omega arith) ∙ shadows .cursors t h;
         },
       )
+
+-- The same with k, n and N as the code has them
+
+module _ (s : List ℕ) (good : layoutChecks s ≡ result []) where
+  pub marks-room : (size : ℕ) (cells : List ℕ) → size ≡ sizeOf (nIn s) → length cells ≡ 8 * size → length (take (3 * size - 2 * size) (drop (2 * size) cells)) ≡ sizeOf (nIn s)
+  marks-room size cells is long = length-take-le (3 * size - 2 * size) (drop (2 * size) cells) (omega (arith, long, length-drop (2 * size) cells)) ∙ omega (arith, is)
+
+  module _ (k n size : ℕ) (first : k ≡ kIn s) (second : n ≡ nIn s) (third : size ≡ sizeOf n) where
+    pub prepare-ready : (cells marks : List ℕ) → length cells ≡ 8 * size → marks ≡ marksIn s (heldIn s) → kIn s ≤ heldIn s
+        → (badShape k n ≡ false) × (length (take (4 * size - 0) (withMarks size cells marks)) ≡ 4 * sizeOf n)
+        × (length (missing (sizeOf n) (take (sizeOf n) (drop (2 * sizeOf n) (take (4 * size - 0) (withMarks size cells marks))))) < sizeOf n)
+    prepare-ready =
+        rw (third, first, second)
+        (λ cells marks long is enough.
+        (shape-passed s good, front-room cells marks long is, fewer cells marks long is enough))
+      where
+        front-room : (cells marks : List ℕ) → length cells ≡ 8 * sizeOf (nIn s) → marks ≡ marksIn s (heldIn s)
+            → length (take (4 * sizeOf (nIn s) - 0) (withMarks (sizeOf (nIn s)) cells marks)) ≡ 4 * sizeOf (nIn s)
+        front-room cells marks long is =
+            unfold marked-cells in
+            length-take-le (4 * sizeOf (nIn s) - 0) _ (omega (arith, marked-long s good cells marks long is)) ∙ omega arith
+
+        fewer : (cells marks : List ℕ) → length cells ≡ 8 * sizeOf (nIn s) → marks ≡ marksIn s (heldIn s) → kIn s ≤ heldIn s
+            → length (missing (sizeOf (nIn s)) (take (sizeOf (nIn s)) (drop (2 * sizeOf (nIn s)) (take (4 * sizeOf (nIn s) - 0) (withMarks (sizeOf (nIn s)) cells marks))))) < sizeOf (nIn s)
+        fewer cells marks long is enough =
+            unfold marked-cells in
+            subst (λ (zs : List ℕ). length zs < sizeOf (nIn s)) (sym (points s good cells marks long is)) (missing-fewer s good (omega (arith, enough, k-some s good)))
+
+    pub marked-room : (cells marks : List ℕ) → length cells ≡ 8 * size → marks ≡ marksIn s (heldIn s) → length (withMarks size cells marks) ≡ 8 * size
+    unfolding marked-cells
+    marked-room = rw (third, second) (λ cells marks long is. marked-long s good cells marks long is)
+
+    pub ready-room : (cells marks ready : List ℕ) → length cells ≡ 8 * size → marks ≡ marksIn s (heldIn s) → Shadows s (heldIn s) cells
+        → length ready ≡ length (take (4 * size - 0) (withMarks size cells marks)) → length (withFront size (withMarks size cells marks) ready) ≡ 8 * size
+    unfolding marked-cells ready-cells
+    ready-room = rw (third, second) (λ cells marks ready long is shadows same. ready-long s good cells marks long is shadows ready same)
+
+    pub laid-start : (cells marks ready : List ℕ) → length cells ≡ 8 * size → marks ≡ marksIn s (heldIn s) → Shadows s (heldIn s) cells
+        → length ready ≡ length (take (4 * size - 0) (withMarks size cells marks)) → (count : ℕ)
+        → Prepared k n (take (sizeOf n) (drop (2 * sizeOf n) (take (4 * size - 0) (withMarks size cells marks)))) count ready → (now : List ℕ)
+        → now ≡ take (4 * size) (withFront size (withMarks size cells marks) ready)
+            ++ (tab size (λ j. getD (withFront size (withMarks size cells marks) ready) j 0) ++ drop (4 * size + size) (withFront size (withMarks size cells marks) ready))
+        → (count ≡ length (missingIn s)) × Laid s 0 now
+    unfolding marked-cells ready-cells window
+    laid-start =
+        rw (third, first, second)
+        (λ cells marks ready long is shadows same count prepared now kept. laid-first s good cells marks long is shadows ready same count prepared now kept)

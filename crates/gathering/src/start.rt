@@ -13,12 +13,12 @@ use prepare::inner::prepare;
 use storage::inner::words_at;
 ghost use mathlib.Core.Path.{_≡_};
 ghost use mathlib.Core.List.{[], _++_};
-ghost use Prim.Native.Nat.{_+_, _*_, _<_};
+ghost use Prim.Native.Nat.{_+_, _*_, _<_, _≤_};
 ghost use lib.ListN.{length, getD, take, drop, set};
 ghost use Rattle.field.specs.Refusals.{result};
 ghost use Rattle.field.specs.Size.{sizeOf};
 ghost use Rattle.poly.specs.Tab.{tab};
-ghost use Rattle.layout.specs.Fields.{nIn, heldIn, positionIn};
+ghost use Rattle.layout.specs.Fields.{kIn, nIn, heldIn, positionIn};
 ghost use Rattle.layout.specs.Layout.{layoutChecks};
 ghost use Rattle.layout.specs.Rooms.{workRoom};
 ghost use Rattle.gathering.specs.Gathering.{marksIn, missingIn, wordsHeld, cursorHeld, Shadows, Laid};
@@ -74,7 +74,7 @@ fn keep_weights(size: usize, cells: &mut [u32])
 
 // Every cursor at the front of its list; what is returned is how many positions are missing.
 pub fn start(bundle: &[u8], cells: &mut [u32]) -> usize
-    requires { ⌜ (layoutChecks (now bundle) ≡ result []) × (length (now cells) ≡ workRoom (nIn (now bundle))) ⌝ }
+    requires { ⌜ (layoutChecks (now bundle) ≡ result []) × (kIn (now bundle) ≤ heldIn (now bundle)) × (length (now cells) ≡ workRoom (nIn (now bundle))) ⌝ }
     ensures { λ r. ⌜ (r ≡ length (missingIn (now (bundle .entry)))) × Laid (now (bundle .entry)) 0 (now (cells .exit)) ⌝ }
 {
     let n = n_in(bundle);

@@ -3,9 +3,9 @@ use crate::answer::LengthAnswer;
 use cells::inner::clear;
 use cells::inner::clear_bytes;
 use field::Outcome;
+use gathering::inner::start;
 use layout::inner::length_in;
 use reader::inner::read_blocks;
-use reader::inner::start;
 ghost use mathlib.Core.Path.{_≡_};
 ghost use mathlib.Core.List.{[]};
 ghost use Prim.Native.Nat.{_≤_};
@@ -24,8 +24,8 @@ pub fn read_all(bundle: &[u8], file: &mut [u8], cells: &mut [u32]) -> LengthAnsw
     requires { ⌜ (layoutChecks (now bundle) ≡ result []) × (kIn (now bundle) ≤ heldIn (now bundle)) × (length (now file) ≡ lengthIn (now bundle)) × (length (now cells) ≡ workRoom (nIn (now bundle))) ⌝ }
     ensures { λ r. ⌜ left (toldLength r) (now (file .exit)) (now (cells .exit)) ≡ blocksLeave (blocksAnswer (now (bundle .entry)) 0 (blocksIn (now (bundle .entry)))) (now (bundle .entry)) (now (file .entry)) (now (cells .entry)) ⌝ }
 {
-    start(bundle, cells);
-    match read_blocks(bundle, file, cells) {
+    let missing = start(bundle, cells);
+    match read_blocks(bundle, missing, file, cells) {
         Outcome::Done => {
             clear(cells);
             LengthAnswer::Length(length_in(bundle))

@@ -302,7 +302,7 @@ module _ (s : List ℕ) (good : layoutChecks s ≡ result []) where
         → length ready ≡ length (take (4 * size - 0) (withMarks size cells marks)) → (count : ℕ)
         → Prepared k n (take (sizeOf n) (drop (2 * sizeOf n) (take (4 * size - 0) (withMarks size cells marks)))) count ready → (now : List ℕ)
         → now ≡ take (4 * size) (withFront size (withMarks size cells marks) ready)
-            ++ (tab size (λ j. getD (withFront size (withMarks size cells marks) ready) j 0) ++ drop (4 * size + size) (withFront size (withMarks size cells marks) ready))
+        ++ (tab size (λ j. getD (withFront size (withMarks size cells marks) ready) j 0) ++ drop (4 * size + size) (withFront size (withMarks size cells marks) ready))
         → (count ≡ length (missingIn s)) × Laid s 0 now
     unfolding marked-cells ready-cells window
     laid-start =

@@ -2,13 +2,13 @@
 use bundle::inner::work_room;
 use field::Outcome;
 use field::Refusal;
+use gathering::inner::start;
 use layout::inner::held_in;
 use layout::inner::k_in;
 use layout::inner::layout_checks;
 use layout::inner::length_in;
 use layout::inner::n_in;
 use reader::inner::read_blocks;
-use reader::inner::start;
 ghost use mathlib.Core.Path.{_≡_};
 ghost use mathlib.Core.List.{[], _∷_};
 ghost use Prim.Native.Nat.{_*_, _≤_};
@@ -33,8 +33,8 @@ fn judge_blocks(bundle: &[u8], cells: &mut [u32]) -> Outcome
     ensures { λ r. ⌜ after (toldOutcome r) (result (lengthIn (now (bundle .entry)) ∷ [])) ≡ blocksAnswer (now (bundle .entry)) 0 (blocksIn (now (bundle .entry))) ⌝ }
 {
     let mut file = [0u8; 1];
-    start(bundle, cells);
-    read_blocks(bundle, &mut file[0..0], cells)
+    let missing = start(bundle, cells);
+    read_blocks(bundle, missing, &mut file[0..0], cells)
 }
 
 // ROOM, FEW and the blocks, once the layout is good.

@@ -45,7 +45,13 @@ fn take_message(bundle: &[u8], b: usize, message: &[u32], file: &mut [u8]) -> Ou
 }
 
 // Block b: its message into the file, or its refusal.
-fn read_block(bundle: &[u8], b: usize, missing: usize, file: &mut [u8], cells: &mut [u32]) -> Outcome
+fn read_block(
+    bundle: &[u8],
+    b: usize,
+    missing: usize,
+    file: &mut [u8],
+    cells: &mut [u32],
+) -> Outcome
     requires { ⌜ (layoutChecks (now bundle) ≡ result []) × (b < blocksIn (now bundle)) × (kIn (now bundle) ≤ heldIn (now bundle)) ⌝ }
     requires { ⌜ (missing ≡ length (missingIn (now bundle))) × Laid (now bundle) b (now cells) ⌝ }
     ensures { λ r. ⌜ toldOutcome r ≡ blockAnswer (now (bundle .entry)) b ⌝ }

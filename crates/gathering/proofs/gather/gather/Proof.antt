@@ -49,7 +49,7 @@ gather-spec =
     (λ c. let start = c .before .before .before .before .before in omega (arith, cells-long (start .args .bundle .now) (start .pre .0) _ (start .args .cells .now) (size-is (start .args .bundle .now) _ _ (c .before .before .n-in .ensures .0) (c .before .size .ensures)) (start .pre .2 .fixed .long)))
     (λ c κs. search needs)
     (λ c.
-    let start = c .before .before .before .before .before .before .before .before .before in 
+    let start = c .before .before .before .before .before .before .before .before .before in
     (search needs, passed-none (start .args .bundle .now) (start .pre .0) (start .args .b) _ (start .args .cells .now) _ (size-is (start .args .bundle .now) _ _ (c .before .before .before .before .before .before .n-in .ensures .0) (c .before .before .before .before .before .size .ensures)) (start .pre .2) (c .before .before .clear .ensures)))
     (λ c κs.
     let l = c .before .before .loop in
@@ -72,5 +72,5 @@ gather-spec =
     (λ c. let start = c .before .before .before .before .before .before .before .before .before .before .before in c .before .loop .inv .1 .fixed .long ∙ sym (start .pre .2 .fixed .long))
     (λ c.
     let l = c .before .loop in
-    let start = c .before .before .before .before .before .before .before .before .before .before .before in 
+    let start = c .before .before .before .before .before .before .before .before .before .before .before in
     passed-all (start .args .bundle .now) (start .pre .0) (start .args .b) (l .t) (l .cells) (omega (arith, l .inv .0, c .loop-test .left, c .before .before .before .before .before .before .held-in .ensures .0)) (l .inv .1)))

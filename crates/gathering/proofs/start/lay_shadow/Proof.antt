@@ -49,7 +49,7 @@ lay-shadow-spec =
     (λ c. let start = c .before .before .before .before .before .before in omega (arith, inside (start .args .bundle .now) (start .args .t) (start .args .size) (start .pre .0) (start .pre .1) (start .pre .2), start .pre .3, length-set (start .args .cells .now) (5 * start .args .size + start .args .t) (c .before .words-at .result), length-set (set (start .args .cells .now) (5 * start .args .size + start .args .t) (c .before .words-at .result)) (6 * start .args .size + start .args .t) (c .before .before .before .offset-in .result)))
     (λ c. search needs)
     (λ c.
-    let start = c .before .before .before .before .before .before in 
+    let start = c .before .before .before .before .before .before in
     laid (start .args .cells .now) (5 * start .args .size + start .args .t) (6 * start .args .size + start .args .t) (7 * start .args .size + start .args .t)
     (words-laid (start .args .bundle .now) (start .args .t) _ _ _ (c .before .before .before .offset-in .ensures .0) (c .before .before .count-in .ensures .0) (c .before .words-at .ensures))
     (cursor-laid (start .args .bundle .now) (start .args .t) _ (c .before .before .before .offset-in .ensures .0)) (c .position-in .ensures .0)))

@@ -42,5 +42,5 @@ lay-shadows-spec =
     (λ c. c .before .loop .inv .1)
     (λ c.
     let l = c .before .loop in
-    let start = c .before .before .before .before .before in 
+    let start = c .before .before .before .before .before in
     subst (λ (m : ℕ). Shadows (start .args .bundle .now) m (l .cells)) (omega (arith, l .inv .0, c .loop-test .left, c .before .before .held-in .ensures .0)) (l .inv .2)))

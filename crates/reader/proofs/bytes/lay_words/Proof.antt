@@ -54,5 +54,5 @@ lay-words-spec =
     (λ c. c .before .loop .inv .1)
     (λ c.
     let l = c .before .loop in
-    let start = c .before .before .before .before in 
+    let start = c .before .before .before .before in
     all (start .args .message .now) (start .args .file .now) (l .file) (start .args .from) (l .i) (start .args .count) (l .inv .0) (c .loop-test .left) (l .inv .2)))

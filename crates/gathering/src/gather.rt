@@ -28,7 +28,8 @@ fn gather_one(bundle: &[u8], size: usize, b: usize, t: usize, cells: &mut [u32])
     let cursor = wide(cells[6 * size + t]);
     let place = wide(cells[7 * size + t]);
     let symbol = symbol_at(bundle, words, cursor, b);
-    cells[place] = product(symbol, cells[4 * size + place]);
+    let value = product(symbol, cells[4 * size + place]);
+    cells[place] = value;
     cells[6 * size + t] = cursor_after(cursor, symbol) as u32;
 }
 

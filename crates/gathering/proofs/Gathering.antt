@@ -22,7 +22,7 @@ use Rattle.layout.specs.Layout.{layoutChecks}
 use Rattle.layout.specs.Rooms.{workRoom}
 use Rattle.layout.proofs.Entries.{body-inside}
 use Rattle.layout.proofs.Passing.{position-after, offset-is-start, offset-inside, body-passed, bundle-limited}
-use Rattle.gathering.specs.Gathering.{missingIn, marksIn, wordsHeld, cursorHeld, weightedHeld, Fixed, Laid, Gathered}
+use Rattle.gathering.specs.Gathering.{missingIn, wordsHeld, cursorHeld, weightedHeld, Fixed, Laid, Gathered}
 use Rattle.gathering.proofs.Kept.{held-room, fixed-kept, laid-kept}
 use Rattle.gathering.proofs.Marking.{position-inside, marks-free}
 
@@ -38,7 +38,7 @@ module _ (s : List ℕ) (good : layoutChecks s ≡ result []) where
     body-held : bodyGood (blocksIn s) (countIn s t) (drop (offsetIn s t) s) ≡ true
     body-held = subst (λ (at : ℕ). bodyGood (blocksIn s) (countIn s t) (drop at s) ≡ true) (sym (offset-is-start s good t h)) (body-passed s good t h)
 
-    pub placed-held : (b : ℕ) → b < blocksIn s → Placed (offsetIn s t) (blocksIn s) (countIn s t) s b (wordsHeld s t) (cursorHeld s b t)
+    placed-held : (b : ℕ) → b < blocksIn s → Placed (offsetIn s t) (blocksIn s) (countIn s t) s b (wordsHeld s t) (cursorHeld s b t)
     unfolding wordsHeld cursorHeld
     placed-held b l = record { good = body-held; inside = l; words-there = refl; cursor-there = refl }
 

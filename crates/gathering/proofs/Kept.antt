@@ -21,7 +21,7 @@ use Rattle.layout.proofs.Passing.{shape-passed, n-limited, held-few}
 use Rattle.gathering.specs.Gathering.{missingIn, Fixed, Laid}
 
 -- two lists that are the same from an index on
-pub same-later : (m i : ℕ) (a b : List ℕ) → drop m a ≡ drop m b → m ≤ i → getD a i 0 ≡ getD b i 0
+same-later : (m i : ℕ) (a b : List ℕ) → drop m a ≡ drop m b → m ≤ i → getD a i 0 ≡ getD b i 0
 same-later m i a b same h =
     ap (λ (z : ℕ). getD a z 0) {x = i} {y = m + (i - m)} (omega arith) ∙ sym (getD-drop m a (i - m) 0)
     ∙ ap (λ (l : List ℕ). getD l (i - m) 0) same

@@ -76,7 +76,7 @@ module _ (s : List ℕ) where
     pub position-inside : (t : ℕ) → t < heldIn s → positionIn s t < sizeOf (nIn s)
     position-inside t h = lt-of-lt-of-le (position-below s good t h) (n-in-size s good)
 
-    pub marks-new : (t : ℕ) → t < heldIn s → getD (marksIn s (suc t)) (positionIn s t) 0 ≡ 1
+    marks-new : (t : ℕ) → t < heldIn s → getD (marksIn s (suc t)) (positionIn s t) 0 ≡ 1
     unfolding marksIn
     marks-new t h = getD-set-same (marksIn s t) (positionIn s t) 1 0 (omega (arith, marks-long t, position-inside t h))
 

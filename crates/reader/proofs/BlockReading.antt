@@ -1,6 +1,6 @@
 -- What the reader makes of one block, and of the blocks in order: its message's bytes in the file, and the answers one after the other.
 -- Assumes nothing.
-use mathlib.Core.Path.{_≡_, refl, subst, sym, ap, ap₂, _∙_}
+use mathlib.Core.Path.{_≡_, refl, subst, sym, ap, _∙_}
 use mathlib.Core.Bool.{true, false, not}
 use mathlib.Core.List.{List, [], _∷_, _++_, append-assoc, append-nil}
 use mathlib.Core.Option.{Option, some, none}
@@ -14,7 +14,6 @@ use lib.Dec.{eqb}
 use lib.ListN.{length, getD, take, drop, length-append, length-take, drop-of-length-le}
 use lib.Seq.{length-take-le, take-at, take-all, take-length, take-append-le, take-take}
 use Rattle.field.specs.First.{first}
-use Rattle.field.specs.Leaves.{left}
 use Rattle.field.specs.Refusals.{Answer, result, refused, toldOutcome}
 use Rattle.field.specs.Symbol.{Symbols}
 use Rattle.field.specs.declared.refusal.Outcome.{Outcome}
@@ -27,7 +26,7 @@ use Rattle.field.proofs.Refusals.{result-no-refusal}
 use Rattle.storage.specs.Blocks.{blocksOf}
 use Rattle.storage.specs.Bytes.{inBytes}
 use Rattle.layout.specs.Facts.{after}
-use Rattle.layout.specs.Fields.{kIn, nIn, lengthIn, heldIn, blocksIn}
+use Rattle.layout.specs.Fields.{kIn, lengthIn, blocksIn}
 use Rattle.layout.specs.Layout.{layoutChecks}
 use Rattle.storage.proofs.BytesLaws.{in-bytes-length}
 use Rattle.layout.proofs.Passing.{k-some}

@@ -5,7 +5,7 @@ use mathlib.Core.List.{List}
 use Prim.Native.Nat.{ℕ, suc}
 use native.Mathlib.Omega.{arith}
 use borrow.Author.Needs.{needs}
-use lib.ListN.{length-set}
+use lib.Seq.{lt-length-set}
 use Rattle.storage.specs.Storage.{cursorAt}
 use Rattle.layout.specs.Fields.{blocksIn, countIn, offsetIn}
 use Rattle.gathering.specs.Gathering.{cursorHeld}
@@ -49,7 +49,7 @@ gather-one-spec =
     (λ c. let start = c .before .before .before .before .before .before .before .before .before .before .before .before in omega (arith, shadow-inside (start .args .bundle .now) (start .pre .0 .0) (start .args .size) (start .args .t) (start .args .cells .now) (start .pre .0 .3) (start .pre .0 .2) (start .pre .1 .0 .long)))
     (λ c. let start = c .before .before .before .before .before .before .before .before .before .before .before .before in omega (arith, shadow-inside (start .args .bundle .now) (start .pre .0 .0) (start .args .size) (start .args .t) (start .args .cells .now) (start .pre .0 .3) (start .pre .0 .2) (start .pre .1 .0 .long)))
     (λ c. let start = c .before .before .before .before .before .before .before .before .before .before .before .before in omega (arith, shadow-inside (start .args .bundle .now) (start .pre .0 .0) (start .args .size) (start .args .t) (start .args .cells .now) (start .pre .0 .3) (start .pre .0 .2) (start .pre .1 .0 .long)))
-    (λ c. let start = c .before .before .before .before .before .before .before .before .before .before .before .before in omega (arith, shadow-inside (start .args .bundle .now) (start .pre .0 .0) (start .args .size) (start .args .t) (start .args .cells .now) (start .pre .0 .3) (start .pre .0 .2) (start .pre .1 .0 .long), length-set (start .args .cells .now) (c .before .before .before .before .wide3 .result) (c .before .product .result)))
+    (λ c. let start = c .before .before .before .before .before .before .before .before .before .before .before .before in lt-length-set (start .args .cells .now) _ _ (omega (arith, shadow-inside (start .args .bundle .now) (start .pre .0 .0) (start .args .size) (start .args .t) (start .args .cells .now) (start .pre .0 .3) (start .pre .0 .2) (start .pre .1 .0 .long))))
     (λ c. search needs)
     (λ c.
     let start = c .before .before .before .before .before .before .before .before .before .before .before .before in

@@ -6,17 +6,19 @@ use mathlib.Core.List.{List}
 use Prim.Native.Nat.{ℕ, zero, suc, _+_, _*_, _<_, _≤_}
 use native.Mathlib.Omega.{arith}
 use lib.ListN.{length, drop}
+use Rattle.field.specs.Size.{sizeOf}
 use Rattle.storage.specs.Blocks.{blocksOf, badBundleShape}
 use Rattle.storage.specs.Storage.{countOf, bodySize, stored}
 use Rattle.storage.proofs.Placing.{stored-behind}
 use Rattle.storage.proofs.Storing.{body-least}
 use Rattle.layout.specs.Shadows.{firstBody}
 use Rattle.words.specs.File.{symbolAt, fileBundle}
-use Rattle.words.proofs.Counting.{count-up}
+use Rattle.words.specs.Counts.{noneCounted, Counted}
+use Rattle.words.proofs.Counting.{count-up, none-listed}
 use Rattle.front.proofs.Bundling.{bodyAt, body-first, body-next, body-up, bundle-end}
 use Rattle.front.proofs.Onward.{onward-none, onward-more}
 use Rattle.plain.specs.Filled.{Filled}
-use Rattle.plain.specs.Plain.{NoneOver, Plainly, Laid}
+use Rattle.plain.specs.Plain.{NoneOver, Plainly, Plain}
 use Rattle.plain.proofs.Filling.{filled-none, next-onward, next-filled}
 
 -- where body i begins if each one lists nothing
@@ -35,8 +37,8 @@ module _ (k n : ℕ) (file : List ℕ) where
         onward = λ none. onward-more (fileBundle k n file) s t u (first .onward none) (second .onward none);
       }
 
-  pub laid-none : (s : List ℕ) → length (fileBundle k n file) ≤ length s → Laid k n file 0 s
-  laid-none s room = record { room = room; bodies = λ none i h. filled-none k n file i s }
+  pub plain-none : (s : List ℕ) → length (fileBundle k n file) ≤ length s → Plain k n file 0 s
+  plain-none s room = record { room = room; bodies = λ none i h. filled-none k n file i s }
 
   plain-le : (i : ℕ) → i ≤ n → plainAt n (blocksOf k (length file)) i ≤ bodyAt k n file i
   unfolding plainAt
@@ -62,7 +64,7 @@ module _ (k n : ℕ) (file : List ℕ) where
         omega (arith, plain-le (suc i) h, ap (λ (m : ℕ). bodySize m 0) blocks, body-up k n file (suc i) n h (omega arith), bundle-end k n file shape)
 
     -- start is the output before the block, out before the turn, after behind it
-    module _ (b : ℕ) (l : b < blocksOf k (length file)) (start out : List ℕ) (before : Laid k n file b start) (on : Plainly k n file start out) where
+    module _ (b : ℕ) (l : b < blocksOf k (length file)) (start out : List ℕ) (before : Plain k n file b start) (on : Plainly k n file start out) where
       pub still-room : length (fileBundle k n file) ≤ length out
       still-room = omega (arith, before .room, on .long)
 
@@ -82,7 +84,18 @@ module _ (k n : ℕ) (file : List ℕ) where
               onward = λ none. next-onward k n file shape i h b l out still-room out after (onward-none (fileBundle k n file) out) (put-is none);
             })
 
-        pub turn-laid : (NoneOver k n file → (j : ℕ) → j < i → Filled k n file (suc b) j out) → NoneOver k n file → (j : ℕ) → j < i + 1
+        pub turn-plain : (NoneOver k n file → (j : ℕ) → j < i → Filled k n file (suc b) j out) → NoneOver k n file → (j : ℕ) → j < i + 1
             → Filled k n file (suc b) j after
-        turn-laid old none =
+        turn-plain old none =
             next-filled k n file shape i h b l out still-room start after (on .onward none) (put-is none) (before .bodies none i h) (old none)
+
+  -- a symbol of the first b blocks overflowed, as their counts in the cells say: then what is taken for granted does not hold
+  module _ (b : ℕ) (l : b < blocksOf k (length file)) (S : ℕ) (cells : List ℕ) (size : S ≡ sizeOf n) (enough : n ≤ sizeOf n) (counted : Counted k n file b cells) (some : noneCounted n S cells ≡ false) where
+    over : NoneOver k n file → ⊥
+    over none =
+        let all = none-listed n S cells size enough k file b counted (λ i h. omega (arith, none i h, count-up (symbolAt k n file i) b (blocksOf k (length file)) (omega arith))) in
+        let z : _≡_ {A = ℕ} 0 1 = cc in
+        omega arith
+
+    pub plain-over : (out : List ℕ) → Plain k n file b out → Plain k n file (suc b) out
+    plain-over out before = record { room = before .room; bodies = λ none. absurd (over none) }

@@ -18,6 +18,6 @@ pub record Plainly (k n : ℕ) (file before after : List ℕ) : Type 0 where
   pub onward : NoneOver k n file → Onward (fileBundle k n file) before after
 
 -- the first b blocks are in the bodies if no symbol overflows
-pub record Laid (k n : ℕ) (file : List ℕ) (b : ℕ) (out : List ℕ) : Type 0 where
+pub record Plain (k n : ℕ) (file : List ℕ) (b : ℕ) (out : List ℕ) : Type 0 where
   pub room : length (fileBundle k n file) ≤ length out
   pub bodies : NoneOver k n file → (i : ℕ) → i < n → Filled k n file b i out

@@ -1,12 +1,12 @@
-// The first pass over the blocks: it counts the overflows, of which the table needs the counts, and writes the bodies as they lie where no symbol
-// overflows. Whether one does is known when all blocks are counted, and what was written lies inside the bundle in any case. No entry points:
-// the caller has made the checks.
+// The first pass over the blocks: it counts the overflows, of which the table needs the counts, and until one is met it writes the bodies as they
+// lie where there is none. What it writes lies inside the bundle in any case. No entry points: the caller has made the checks.
 use field::inner::size;
 use layout::inner::blocks;
 use storage::inner::body_size;
 use storage::inner::store;
 use words::inner::clear_counts;
 use words::inner::code_front;
+use words::inner::none_counted;
 use words::inner::tally;
 ghost use mathlib.Core.Path.{_≡_};
 ghost use mathlib.Core.Bool.{false};
@@ -17,7 +17,7 @@ ghost use Rattle.storage.specs.Blocks.{blocksOf, badBundleShape};
 ghost use Rattle.storage.specs.Storage.{stored, bodySize};
 ghost use Rattle.words.specs.File.{fileBundle};
 ghost use Rattle.words.specs.Counts.{Coded, Counted};
-ghost use Rattle.plain.specs.Plain.{Plainly, Laid};
+ghost use Rattle.plain.specs.Plain.{Plainly, Plain};
 
 // The symbol of block b into the body that begins at an index.
 pub fn put_at(
@@ -38,10 +38,10 @@ pub fn put_at(
 
 // The symbols of block b into bodies that list nothing.
 fn store_plain(k: usize, n: usize, file: &[u8], b: usize, out: &mut [u8], cells: &[u32])
-    requires { ⌜ (badBundleShape k n (length (now file)) ≡ false) × (b < blocksOf k (length (now file))) × Laid k n (now file) b (now out) × (n ≤ length (now cells)) ⌝ }
+    requires { ⌜ (badBundleShape k n (length (now file)) ≡ false) × (b < blocksOf k (length (now file))) × Plain k n (now file) b (now out) × (n ≤ length (now cells)) ⌝ }
     requires { ⌜ Coded k n (now file) b (now cells) ⌝ }
     ensures { λ _. ⌜ Plainly k n (now (file .entry)) (now (out .entry)) (now (out .exit)) ⌝ }
-    ensures { λ _. ⌜ Laid k n (now (file .entry)) (suc b) (now (out .exit)) ⌝ }
+    ensures { λ _. ⌜ Plain k n (now (file .entry)) (suc b) (now (out .exit)) ⌝ }
 {
     let blocks = blocks(k, file.len());
     let size = body_size(blocks, 0);
@@ -54,15 +54,28 @@ fn store_plain(k: usize, n: usize, file: &[u8], b: usize, out: &mut [u8], cells:
     }
 }
 
-fn pass_block(k: usize, n: usize, file: &[u8], b: usize, out: &mut [u8], cells: &mut [u32])
-    requires { ⌜ (badBundleShape k n (length (now file)) ≡ false) × (b < blocksOf k (length (now file))) × Laid k n (now file) b (now out) × Counted k n (now file) b (now cells) ⌝ }
+// The same, unless a symbol before them overflowed: then the bodies have to be written anew, and storing is only time.
+fn store_if_none(k: usize, n: usize, file: &[u8], b: usize, out: &mut [u8], cells: &[u32])
+    requires { ⌜ (badBundleShape k n (length (now file)) ≡ false) × (b < blocksOf k (length (now file))) × Plain k n (now file) b (now out) × Counted k n (now file) b (now cells) ⌝ }
+    requires { ⌜ Coded k n (now file) b (now cells) ⌝ }
     ensures { λ _. ⌜ Plainly k n (now (file .entry)) (now (out .entry)) (now (out .exit)) ⌝ }
-    ensures { λ _. ⌜ Laid k n (now (file .entry)) (suc b) (now (out .exit)) ⌝ }
+    ensures { λ _. ⌜ Plain k n (now (file .entry)) (suc b) (now (out .exit)) ⌝ }
+{
+    let size = size(n);
+    if none_counted(n, size, cells) {
+        store_plain(k, n, file, b, out, cells);
+    }
+}
+
+fn pass_block(k: usize, n: usize, file: &[u8], b: usize, out: &mut [u8], cells: &mut [u32])
+    requires { ⌜ (badBundleShape k n (length (now file)) ≡ false) × (b < blocksOf k (length (now file))) × Plain k n (now file) b (now out) × Counted k n (now file) b (now cells) ⌝ }
+    ensures { λ _. ⌜ Plainly k n (now (file .entry)) (now (out .entry)) (now (out .exit)) ⌝ }
+    ensures { λ _. ⌜ Plain k n (now (file .entry)) (suc b) (now (out .exit)) ⌝ }
     ensures { λ _. ⌜ Counted k n (now (file .entry)) (suc b) (now (cells .exit)) ⌝ }
 {
     let size = size(n);
     code_front(k, n, file, b, cells);
-    store_plain(k, n, file, b, out, cells);
+    store_if_none(k, n, file, b, out, cells);
     tally(n, size, cells);
 }
 
@@ -70,7 +83,7 @@ fn pass_block(k: usize, n: usize, file: &[u8], b: usize, out: &mut [u8], cells: 
 pub fn write_plain(k: usize, n: usize, file: &[u8], out: &mut [u8], cells: &mut [u32])
     requires { ⌜ (badBundleShape k n (length (now file)) ≡ false) × (length (fileBundle k n (now file)) ≤ length (now out)) × (length (now cells) ≡ 2 * sizeOf n) ⌝ }
     ensures { λ _. ⌜ Plainly k n (now (file .entry)) (now (out .entry)) (now (out .exit)) ⌝ }
-    ensures { λ _. ⌜ Laid k n (now (file .entry)) (blocksOf k (length (now (file .entry)))) (now (out .exit)) ⌝ }
+    ensures { λ _. ⌜ Plain k n (now (file .entry)) (blocksOf k (length (now (file .entry)))) (now (out .exit)) ⌝ }
     ensures { λ _. ⌜ Counted k n (now (file .entry)) (blocksOf k (length (now (file .entry)))) (now (cells .exit)) ⌝ }
 {
     let blocks = blocks(k, file.len());

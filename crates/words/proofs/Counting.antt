@@ -17,7 +17,7 @@ use Rattle.code.specs.Code.{codeWord}
 use Rattle.storage.specs.Blocks.{badBundleShape}
 use Rattle.storage.specs.Storage.{overflows, countOf}
 use Rattle.layout.proofs.Holding.{limits}
-use Rattle.storage.proofs.RisingLaws.{none-found}
+use Rattle.storage.proofs.RisingLaws.{none-found, found-none}
 use Rattle.storage.proofs.Storing.{overflow-count}
 use Rattle.words.specs.File.{messageAt, symbolAt}
 use Rattle.words.specs.Counts.{tallied, noneCounted, Coded, Counted}
@@ -92,6 +92,10 @@ module _ (n S : ℕ) (cells : List ℕ) (size : S ≡ sizeOf n) (enough : n ≤ 
     unfolding noneCounted
     none-over none i h =
         sym (count-here i h) ∙ eqb-true (getD cells (S + i) 0) 0 (not-false _ (none-found n (λ j. not (eqb (getD cells (S + j) 0) 0)) none i h))
+
+    pub none-listed : ((i : ℕ) → i < n → countOf b (symbolAt k n file i) ≡ 0) → noneCounted n S cells ≡ true
+    unfolding noneCounted
+    none-listed none = found-none n _ (λ i h. simp (eq-eqb (getD cells (S + i) 0) 0 (count-here i h ∙ none i h)))
 
     pub counts-low : b < 65536 → (i : ℕ) → i < n → getD cells (S + i) 0 < 65536
     counts-low few i h = omega (arith, count-here i h, overflow-count (symbolAt k n file i) b)

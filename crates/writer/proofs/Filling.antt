@@ -1,4 +1,5 @@
--- The bodies as the second pass fills them: the table says where each symbol belongs, and in the end all of the bundle stands.
+-- The bodies as the second pass fills them, each symbol where the table says; and that all of the bundle stands once they are filled, by this pass
+-- or by the first.
 -- Assumes nothing.
 use mathlib.Core.Path.{_≡_, refl, ap, _∙_}
 use mathlib.Core.Bool.{false}
@@ -16,7 +17,7 @@ use Rattle.storage.proofs.BytesLaws.{two-alike, four-alike}
 use Rattle.words.specs.File.{symbolAt, fileBundle}
 use Rattle.front.specs.Onward.{Stand, Onward}
 use Rattle.plain.specs.Filled.{Filled}
-use Rattle.plain.specs.Plain.{NoneOver, Plainly, Laid}
+use Rattle.plain.specs.Plain.{NoneOver, Plainly, Plain}
 use Rattle.plain.proofs.Filling.{filled-on, filled-none, body-inside, next-onward, next-filled}
 use Rattle.writer.specs.Writing.{Progress}
 use Rattle.front.proofs.Bundling.{bodyAt, body-first, body-next, bundle-end, bundle-count, bundle-offset}
@@ -100,7 +101,7 @@ module _ (k n : ℕ) (file : List ℕ) (shape : badBundleShape k n (length file)
       (λ p g l. stands-to out all n (omega arith) p g (omega (arith, bundle-end k n file shape)))
 
   -- the first pass, then header and table: s is the output before both, t between them, u after them
-  module _ (s t u : List ℕ) (first : Plainly k n file s t) (laid : Laid k n file (blocksOf k (length file)) t) (on : Onward (fileBundle k n file) t u) (table : Stand 0 (firstBody n) (fileBundle k n file) u) where
+  module _ (s t u : List ℕ) (first : Plainly k n file s t) (laid : Plain k n file (blocksOf k (length file)) t) (on : Onward (fileBundle k n file) t u) (table : Stand 0 (firstBody n) (fileBundle k n file) u) where
     room-left : length (fileBundle k n file) ≤ length u
     room-left = omega (arith, laid .room, on .long)
 

@@ -1,4 +1,4 @@
--- How far the second pass has come: the bytes of the bundle in the output, block by block.
+-- How far the writer has come: the bytes of the bundle in its output, block by block.
 use mathlib.Core.List.{List}
 use Prim.Native.Nat.{ℕ, _<_, _≤_}
 use lib.ListN.{length}

@@ -16,7 +16,7 @@ pass-block-spec =
     (λ c κs.
     let coded = c .before .before .before .before .code-front in
     let start = c .before .before .before .before .before .before .before .before .before .before in
-    ((start .pre .0, start .pre .1, start .pre .2, omega (arith, coded .ensures .1 .long, n-fits _ (start .args .n) _ (start .pre .0))), coded .ensures .0))
+    ((start .pre .0, start .pre .1, start .pre .2, coded .ensures .1), coded .ensures .0))
     (λ c κs.
     let coded = c .before .before .before .before .before .before .before .before .code-front in
     let start = c .before .before .before .before .before .before .before .before .before .before .before .before .before .before in
@@ -30,7 +30,7 @@ pass-block-spec =
     (λ c. search needs)
     (λ c.
     let coded = c .before .before .before .before .before .before .before .before .before .before .before .code-front in
-    let stored = c .before .before .before .before .before .before .store-plain in
+    let stored = c .before .before .before .before .before .before .store-if-none in
     let start = c .before .before .before .before .before .before .before .before .before .before .before .before .before .before .before .before .before in (
       stored .ensures .0,
       (

@@ -12,7 +12,7 @@ use Rattle.layout.proofs.Holding.{limits}
 use Rattle.front.proofs.Bundling.{symbol-small}
 use Rattle.plain.specs.Filled.{Filled}
 use Rattle.plain.specs.Plain.{NoneOver, Plainly}
-use Rattle.plain.proofs.Laying.{plainAt, plainly-none, at-next, plain-inside, still-room, turn-plainly, turn-laid}
+use Rattle.plain.proofs.Laying.{plainAt, plainly-none, at-next, plain-inside, still-room, turn-plainly, turn-plain}
 use Rattle.plain.proofs.inner.store_plain.Statement.{statement}
 use Rattle.plain.proofs.inner.store_plain.Tie as tie
 
@@ -76,7 +76,7 @@ store-plain-spec =
       at-next _ _ file (before .0) (l .i) inside (l .at) _ (l .inv .1) blocks _ (c .before .before .before .before .before .before .before .body-size .ensures),
       search needs,
       turn-plainly _ _ file (before .0) (l .i) inside (l .at) _ (l .inv .1) blocks _ (before .1) (start .args .out .now) (l .out) (before .2) (l .inv .3) _ (start .pre .1 (l .i) inside) (put .last .0) (put .kept .0) (put .ensures),
-      turn-laid _ _ file (before .0) (l .i) inside (l .at) _ (l .inv .1) blocks _ (before .1) (start .args .out .now) (l .out) (before .2) (l .inv .3) _ (start .pre .1 (l .i) inside) (put .last .0) (put .kept .0) (put .ensures) (l .inv .4),
+      turn-plain _ _ file (before .0) (l .i) inside (l .at) _ (l .inv .1) blocks _ (before .1) (start .args .out .now) (l .out) (before .2) (l .inv .3) _ (start .pre .1 (l .i) inside) (put .last .0) (put .kept .0) (put .ensures) (l .inv .4),
     ))
     (λ c. search needs)
     (λ c.

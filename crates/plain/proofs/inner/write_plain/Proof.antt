@@ -11,14 +11,14 @@ use Rattle.storage.specs.Blocks.{blocksOf, longestFile}
 use Rattle.layout.proofs.Holding.{limits}
 use Rattle.words.specs.Counts.{Counted}
 use Rattle.words.proofs.Counting.{n-fits, counted-none}
-use Rattle.plain.specs.Plain.{Plainly, Laid}
-use Rattle.plain.proofs.Laying.{plainly-none, plainly-more, laid-none}
+use Rattle.plain.specs.Plain.{Plainly, Plain}
+use Rattle.plain.proofs.Laying.{plainly-none, plainly-more, plain-none}
 use Rattle.plain.proofs.inner.write_plain.Statement.{statement}
 use Rattle.plain.proofs.inner.write_plain.Tie as tie
 
 abbrev Inv-loop : tie.InvT-loop
 Inv-loop k n file out₀ cells₀ blocks b₀ out cells b =
-    (b ≤ blocks) × (length out ≡ length out₀) × (length cells ≡ length cells₀) × Plainly k n file out₀ out × Laid k n file b out
+    (b ≤ blocks) × (length out ≡ length out₀) × (length cells ≡ length cells₀) × Plainly k n file out₀ out × Plain k n file b out
     × Counted k n file b cells
 
 abbrev μ-loop : tie.MeasureT-loop
@@ -42,7 +42,7 @@ write-plain-spec =
       search needs,
       search needs,
       plainly-none _ _ _ _,
-      laid-none _ _ _ (start .args .out .now) (start .pre .1),
+      plain-none _ _ _ (start .args .out .now) (start .pre .1),
       counted-none (start .args .k) (start .args .n) (start .args .file .now) (none .last .1 .0) (omega (arith, none .kept .1 .0)) (none .ensures),
     ))
     (λ c κs. (c .before .before .before .before .before .before .before .before .before .before .before .before .pre .0, omega (arith, c .before .before .before .before .before .before .before .before .blocks2 .ensures), c .before .before .before .loop .inv .4, c .before .before .before .loop .inv .5))
@@ -59,7 +59,7 @@ write-plain-spec =
       search needs,
       search needs,
       plainly-more k n file (start .args .out .now) (l .out) (block .last .1 .1 .1 .1 .0) (l .inv .3) (block .ensures .0),
-      subst (λ (m : ℕ). Laid k n file m (block .last .1 .1 .1 .1 .0)) (sym (add-one (l .b))) (block .ensures .1 .0),
+      subst (λ (m : ℕ). Plain k n file m (block .last .1 .1 .1 .1 .0)) (sym (add-one (l .b))) (block .ensures .1 .0),
       subst (λ (m : ℕ). Counted k n file m (block .last .1 .1 .1 .1 .1 .0)) (sym (add-one (l .b))) (block .ensures .1 .1),
     ))
     (λ c. search needs)
@@ -72,5 +72,5 @@ write-plain-spec =
     let file = start .args .file .now in
     let all : l .b ≡ blocksOf k (length file) = omega (arith, c .before .before .before .before .before .before .blocks2 .ensures) in (
       l .inv .3,
-      (subst (λ (m : ℕ). Laid k n file m (l .out)) all (l .inv .4), subst (λ (m : ℕ). Counted k n file m (l .cells)) all (l .inv .5)),
+      (subst (λ (m : ℕ). Plain k n file m (l .out)) all (l .inv .4), subst (λ (m : ℕ). Counted k n file m (l .cells)) all (l .inv .5)),
     )))

@@ -8,7 +8,6 @@ use native.Mathlib.Nat.{le-of-eq}
 use native.Mathlib.Omega.{arith}
 use borrow.Author.Tests.{not-true, not-false}
 use lib.ListN.{length, getD, take, drop}
-use lib.Pow.{pow-pos}
 use lib.Seq.{length-take-le, take-all, take-take, take-at, drop-append-add, drop-drop, getD-take}
 use Rattle.field.specs.Congruence.{_≈_}
 use Rattle.field.specs.Field.{product, inverse}
@@ -40,14 +39,8 @@ Finds k missing d N r s K =
     × (drop (2 * N) s ≡ drop (2 * N) d)
 
 module _ (k missing N K : ℕ) (d : List ℕ) (room : Room N K d) (few : k ≤ K) where
-  h : List ℕ
-  h = take N d
-
   h-long : length (take N d) ≡ N
   h-long = length-take-le N d (omega (arith, room .table .long))
-
-  N-some : 0 < N
-  N-some = omega (arith, size-N N d (room .table), pow-pos (levelOf N))
 
   size-h : length (take N d) ≡ 2 ^ levelOf N
   size-h = h-long ∙ size-N N d (room .table)

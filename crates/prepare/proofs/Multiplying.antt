@@ -50,9 +50,6 @@ pub zeros-symbols : (p : ℕ) → Symbols (replicate p 0)
 zeros-symbols p i l = rw (getD-replicate {A = ℕ} p i 0 0 (omega (arith, length-replicate {A = ℕ} p 0))) (lit< tt)
 
 module _ (N u : ℕ) (d : List ℕ) (long : length d ≡ 4 * N) (N-power : N ≡ sizeOf N) (N-root : levelOf N < 16) (some : 0 < u) (few : u ≤ N) (zeros : take (N - u) d ≡ replicate (N - u) 0) (small : Symbols (part (N - u) u d)) where
-  points : List ℕ
-  points = part (N - u) u d
-
   points-length : length (part (N - u) u d) ≡ u
   points-length = part-length (N - u) u d (omega (arith, long))
 

@@ -108,9 +108,6 @@ module _ (N : ℕ) (d : List ℕ) (long : length d ≡ 4 * N) where
       marks-are = ap (take N) (clean-rest (2 * N) (le-of-eq refl)) ∙ laid-marks
 
       module _ (r : ℕ) (s : List ℕ) (count : r ≡ length (missing N (take N (drop (2 * N) clean)))) (points : s ≡ replicate (N - r) 0 ++ (missing N (take N (drop (2 * N) clean)) ++ drop N clean)) where
-        zs : List ℕ
-        zs = missing N (take N (drop (2 * N) d))
-
         pub begun-count : r ≡ length (missing N (take N (drop (2 * N) d)))
         begun-count = count ∙ ap (λ (m : List ℕ). length (missing N m)) marks-are
 

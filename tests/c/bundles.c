@@ -291,6 +291,22 @@ static void try_limits(void)
     }
 }
 
+/* Files of several blocks with one symbol 65536: in the first, a middle and the last block, at the first, a middle and the last position. */
+static void try_lone_overflows(void)
+{
+    static const size_t shapes[][2] = {{2, 2}, {2, 3}, {3, 7}, {8, 8}, {5, 16}, {9, 33}, {20, 100}, {4, 256}, {2, 1025}, {3, 4096}};
+    enum { BLOCKS = 5 };
+    for (size_t i = 0; i < sizeof shapes / sizeof *shapes; i++)
+        for (size_t block = 0; block < BLOCKS; block += BLOCKS / 2)
+            for (size_t third = 0; third < 3; third++) {
+                const size_t k = shapes[i][0], n = shapes[i][1];
+                choose_lone_overflow(k, n, BLOCKS, block, third * (n - 1) / 2);
+                try_write(0, 0);
+                choose_shadows();
+                try_read(0, 0);
+            }
+}
+
 /* Prints how often each answer of a call was seen. A run in which one of them never came up shows less than it should, and fails. */
 static void report(const struct call *call)
 {
@@ -316,6 +332,7 @@ int main(void)
             try_shape(k, n, 6, 16);
     try_longer();
     try_limits();
+    try_lone_overflows();
     report(&writing);
     report(&reading);
     report(&facts);

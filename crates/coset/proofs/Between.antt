@@ -2,18 +2,16 @@
 -- Assumes nothing.
 use mathlib.Core.Path.{_≡_, sym, ap, _∙_}
 use mathlib.Core.List.{List}
-use Prim.Native.Nat.{ℕ, suc, _+_, _-_, _*_, _^_, _<_, _≤_}
-use native.Mathlib.Nat.{mul-comm}
+use Prim.Native.Nat.{ℕ, _+_, _-_, _*_, _^_, _<_, _≤_}
 use native.Mathlib.Omega.{arith}
 use lib.Pow.{pow-add}
 use Rattle.field.specs.Congruence.{_≈_}
 use Rattle.field.specs.Points.{rootOf}
 use Rattle.field.specs.Roots.{root}
-use Rattle.field.specs.Size.{levelOf, sizeOf}
-use Rattle.field.proofs.Congruence.{≈-of, ≈-sym, ≈-refl, _∘≈_, _+≈_, _·≈_, mul-≈, pow-≈, comb}
+use Rattle.field.specs.Size.{levelOf}
+use Rattle.field.proofs.Congruence.{≈-of, ≈-sym, ≈-refl, _∘≈_, _+≈_, _·≈_, pow-≈, comb}
 use Rattle.field.proofs.Powers.{mul-pow, full-power, one-pow, pow-times}
 use Rattle.field.proofs.Roots.{root-half, root-full}
-use Rattle.field.proofs.Size.{level-le}
 use Rattle.poly.specs.Every.{Every}
 use Rattle.poly.specs.Products.{vanishing}
 use Rattle.poly.specs.Value.{value}

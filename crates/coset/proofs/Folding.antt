@@ -2,7 +2,7 @@
 -- Assumes nothing.
 use mathlib.Core.Path.{_≡_, sym, ap, _∙_}
 use mathlib.Core.List.{List}
-use Prim.Native.Nat.{ℕ, _+_, _*_, _/_, _^_, _<_, _%_}
+use Prim.Native.Nat.{ℕ, _+_, _*_, _/_, _^_, _%_}
 use native.Mathlib.Nat.{mul-comm}
 use native.Mathlib.Omega.{arith}
 use lib.Pow.{pow-add}
@@ -14,9 +14,8 @@ use Rattle.field.proofs.Congruence.{≈-of, ≈-refl, ≈-sym, _∘≈_, _·≈
 use Rattle.field.proofs.Powers.{mul-pow, full-power, one-pow, pow-times}
 use Rattle.field.proofs.Ring.{power-≈}
 use Rattle.poly.specs.Sum.{total}
-use Rattle.poly.specs.Tab.{tab}
 use Rattle.poly.specs.Value.{value}
-use Rattle.poly.proofs.Sum.{total-≈, total-ext, total-scale}
+use Rattle.poly.proofs.Sum.{total-≈, total-scale}
 use Rattle.poly.proofs.Tab.{tab-length, tab-ext}
 use Rattle.poly.proofs.Value.{plain-sum, value-tab}
 use Rattle.halving.specs.Transform.{transformOf}

@@ -1,22 +1,11 @@
 -- A plain sum row by row: where there are B rows of K terms, it is the sum of the columns.
 -- Assumes nothing.
-use mathlib.Core.Path.{_≡_, refl, sym, ap, _∙_}
+use mathlib.Core.Path.{_≡_, ap, _∙_}
 use Prim.Native.Nat.{ℕ, zero, suc, _+_, _*_}
-use native.Mathlib.Nat.{zero-add, zero-mul, suc-add, suc-mul}
+use native.Mathlib.Nat.{zero-mul, suc-mul}
 use native.Mathlib.Omega.{arith}
 use Rattle.poly.specs.Sum.{total}
-use Rattle.poly.proofs.Sum.{total-ext, total-swap}
-
-pub total-append : (m n : ℕ) (f : ℕ → ℕ) → total (m + n) f ≡ total m f + total n (λ i. f (m + i))
-unfolding total
-total-append zero n f = rw zero-add (omega (arith, total-ext n f (λ i. f (0 + i)) (λ i h. ap f (sym (zero-add i)))))
-total-append (suc m) n f =
-    rw suc-add
-    (omega (
-      arith,
-      total-append m n (λ i. f (suc i)),
-      total-ext n (λ i. f (suc (m + i))) (λ i. f (suc m + i)) (λ i h. ap f (sym (suc-add m i))),
-    ))
+use Rattle.poly.proofs.Sum.{total-ext, total-append, total-swap}
 
 rows : (B K : ℕ) (f : ℕ → ℕ) → total (B * K) f ≡ total B (λ b. total K (λ i. f (b * K + i)))
 rows zero K f = unfold total in rw zero-mul
@@ -33,7 +22,3 @@ rows (suc B) K f =
 
 pub columns : (B K : ℕ) (f : ℕ → ℕ) → total (B * K) f ≡ total K (λ i. total B (λ b. f (b * K + i)))
 columns B K f = rows B K f ∙ total-swap B K (λ b i. f (b * K + i))
-
-pub total-more : (n : ℕ) (f : ℕ → ℕ) → total (n + 1) f ≡ total n f + f n
-unfolding total
-total-more n f = total-append n 1 f ∙ ap (total n f +_) (omega (arith, ap f {x = n + 0} {y = n} (omega arith)))

@@ -1,18 +1,21 @@
 -- What the working space of division has: N is a multiple of K, each term of a fold lies in it, and so do the powers of ψ.
 -- Assumes nothing.
 use mathlib.Core.Path.{_≡_, refl, sym, ap, subst, _∙_}
+use mathlib.Core.Bool.{false}
 use mathlib.Core.List.{List}
-use Prim.Native.Nat.{ℕ, suc, _+_, _-_, _*_, _/_, _^_, _<_, _≤_}
+use Prim.Native.Nat.{ℕ, _+_, _-_, _*_, _/_, _^_, _<_, _≤_}
 use native.Mathlib.Nat.{mul-le-mul, div-eq-of-eq-mul-left, le-of-eq, le-trans, le-of-suc-le-suc}
 use native.Mathlib.Omega.{arith}
 use lib.ListN.{length, getD, take, drop}
 use lib.Pow.{pow-add, pow-pos}
 use lib.Seq.{getD-take, getD-drop, length-take-le}
 use Rattle.field.specs.Field.{power}
-use Rattle.field.specs.Size.{levelOf}
+use Rattle.field.specs.Shape.{longest, badShape}
+use Rattle.field.specs.Size.{levelOf, sizeOf}
 use Rattle.field.specs.Symbol.{Symbols}
 use Rattle.field.proofs.Ring.{power-lt}
-use Rattle.field.proofs.Size.{size-power, size-small, level-least}
+use Rattle.field.proofs.Shape.{shape-good, longest-le}
+use Rattle.field.proofs.Size.{size-power, size-small, size-enough, size-least, size-of-power, level-le, level-least}
 use Rattle.poly.proofs.Tab.{tab-at}
 use Rattle.coset.specs.Between.{psi}
 use Rattle.coset.specs.Room.{Table, Room}
@@ -76,3 +79,17 @@ module _ (N K : ℕ) (cells : List ℕ) (room : Room N K cells) where
         K-fits = room .K-fits;
         symbols = subst Symbols (sym front) (room .symbols);
       }
+
+-- N and K of a block whose shape is good
+pub room-of : (k n : ℕ) (cells : List ℕ) → badShape k n ≡ false → Table (sizeOf n) cells → Symbols (take (sizeOf n) cells)
+    → Room (sizeOf n) (sizeOf k) cells
+room-of k n cells shape table small =
+    record {
+      table = table;
+      K-power = size-power k ∙ sym (ap sizeOf (size-power k) ∙ size-of-power (levelOf k) (level-le k));
+      K-fits = le-trans (size-least k (levelOf n) (le-trans (good .1) (le-trans (size-enough n (le-trans (good .2) longest-le)) (le-of-eq (size-power n))))) (le-of-eq (sym (size-power n)));
+      symbols = small;
+    }
+  where
+    good : (0 < k) × (k ≤ n) × (n ≤ longest)
+    good = shape-good k n shape

@@ -1,16 +1,18 @@
 -- The powers of ψ are the turns of the transforms of N and of K: every (2N/K)-th of them is a power of the root of order K.
 -- Assumes nothing.
-use mathlib.Core.Path.{_≡_, refl, sym, ap, _∙_}
+use mathlib.Core.Path.{_≡_, refl, sym, ap, subst, _∙_}
 use mathlib.Core.List.{List}
-use Prim.Native.Nat.{ℕ, suc, _+_, _-_, _*_, _/_, _^_, _<_, _≤_, suc-le-suc}
-use native.Mathlib.Nat.{mul-comm, mul-le-mul, div-eq-of-eq-mul-left, div-mul-le-self, le-of-eq, le-trans}
+use Prim.Native.Nat.{ℕ, suc, _+_, _-_, _*_, _/_, _^_, _<_, _≤_}
+use native.Mathlib.Nat.{mul-comm, mul-le-mul, mul-div-cancel, div-eq-of-eq-mul-left, div-mul-le-self, le-of-eq, le-trans}
 use native.Mathlib.Omega.{arith}
-use lib.ListN.{length, getD}
+use lib.ListN.{length, take}
 use lib.Pow.{pow-add, pow-pos}
+use lib.Seq.{length-take-le}
 use Rattle.field.specs.Field.{power}
 use Rattle.field.specs.Points.{rootOf}
 use Rattle.field.specs.Roots.{root}
 use Rattle.field.specs.Size.{levelOf, sizeOf}
+use Rattle.field.specs.Symbol.{Symbols}
 use Rattle.field.proofs.Ring.{power-times}
 use Rattle.field.proofs.Roots.{root-is}
 use Rattle.field.proofs.Size.{level-least, size-power}
@@ -84,3 +86,16 @@ module _ (N K at : ℕ) (cells : List ℕ) (table : Table N cells) (K-power : K 
   -- what a transform of K numbers asks, wherever before the powers they stand
   pub tabled : at + K ≤ 3 * N → Ready (part at K cells) → Tabled cells at K (3 * N) (2 * N / K)
   tabled apart ready = record { apart = apart; inside = omega (arith, half, table .long); ready = ready; turns = turns }
+
+-- what a transform of the first N cells asks
+pub whole-tabled : (N : ℕ) (s : List ℕ) → Table N s → Symbols (take N s) → Tabled s 0 N (3 * N) 2
+whole-tabled N s table small =
+    subst (Tabled s 0 N (3 * N)) (mul-div-cancel 2 some)
+    (tabled N N 0 s table (table .N-power) (le-of-eq refl) (omega arith)
+    (record { size = long ∙ table .N-power ∙ ap sizeOf (sym long); symbols = small }))
+  where
+    some : 0 < N
+    some = omega (arith, size-N N s table, pow-pos (levelOf N))
+
+    long : length (take N s) ≡ N
+    long = length-take-le N s (omega (arith, table .long))

@@ -18,7 +18,7 @@ use Rattle.powers.specs.Part.{part, replaced}
 use Rattle.powers.specs.Turns.{Tabled}
 use Rattle.powers.proofs.Part.{replaced-length, replaced-part, replaced-behind, replaced-twice}
 use Rattle.coset.specs.Between.{valuesBetween, folded}
-use Rattle.coset.specs.Room.{Table, Room}
+use Rattle.coset.specs.Room.{Room}
 use Rattle.coset.proofs.Between.{root-one}
 use Rattle.coset.proofs.Folding.{folded-transform}
 use Rattle.coset.proofs.Room.{size-N, size-K, levels, rows, table-kept}

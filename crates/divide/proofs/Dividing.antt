@@ -7,15 +7,15 @@ use Prim.Native.Nat.{ℕ, _+_, _-_, _*_, _^_, _%_, _<_, _≤_}
 use native.Mathlib.Nat.{le-of-suc-le-suc}
 use native.Mathlib.Omega.{arith}
 use lib.ListN.{length, getD, take, replicate, length-append, length-replicate, getD-replicate, List·getD-append}
-use lib.Seq.{length-take-le, getD-append-add, ext-getD}
+use lib.Seq.{length-take-le, getD-append-add}
 use lib.Pow.{pow-pos, pow-mono}
 use Rattle.field.specs.Congruence.{_≈_}
-use Rattle.field.specs.Field.{product, inverse, power}
+use Rattle.field.specs.Field.{product, inverse}
 use Rattle.field.specs.Points.{rootOf, pointOf}
 use Rattle.field.specs.Roots.{root}
 use Rattle.field.specs.Size.{levelOf}
 use Rattle.field.specs.Symbol.{Symbols}
-use Rattle.field.proofs.Congruence.{≈-refl, ≈-of, ≈-sym, _∘≈_, _+≈_, _·≈_, mul-≈, mod-≈, comb}
+use Rattle.field.proofs.Congruence.{≈-refl, ≈-of, ≈-sym, _∘≈_, _+≈_, _·≈_, mul-≈, comb}
 use Rattle.field.proofs.Fermat.{inverse-≈}
 use Rattle.field.proofs.Ring.{product-lt, power-≈}
 use Rattle.field.proofs.Roots.{root-order, powers-distinct}
@@ -27,8 +27,8 @@ use Rattle.poly.specs.Value.{value}
 use Rattle.poly.proofs.Counting.{unique}
 use Rattle.poly.proofs.Distinct.{distinct-tab}
 use Rattle.poly.proofs.Every.{every-map, every-tab}
-use Rattle.poly.proofs.Products.{times-length, times-symbols, product-value}
-use Rattle.poly.proofs.Symbols.{symbols-every, symbols-at, tab-symbols}
+use Rattle.poly.proofs.Products.{times-length, product-value}
+use Rattle.poly.proofs.Symbols.{symbols-every, tab-symbols}
 use Rattle.poly.proofs.Tab.{tab-length, tab-at}
 use Rattle.poly.proofs.Value.{value-≈, value-append, value-zeros, value-front}
 use Rattle.halving.specs.Transform.{sums}

@@ -1,11 +1,11 @@
 -- From the coefficients of N·f·M, which stand in front, step by step to those of f: what the cells hold after each.
 -- Assumes nothing.
-use mathlib.Core.Path.{_≡_, refl, sym, ap, ap₂, subst, _∙_}
+use mathlib.Core.Path.{_≡_, sym, ap, ap₂, subst, _∙_}
 use mathlib.Core.List.{List, _++_}
-use Prim.Native.Nat.{ℕ, _+_, _-_, _*_, _/_, _%_, _^_, _<_, _≤_}
+use Prim.Native.Nat.{ℕ, _+_, _-_, _*_, _/_, _<_, _≤_}
 use native.Mathlib.Nat.{add-zero}
 use native.Mathlib.Omega.{arith}
-use lib.ListN.{length, getD, take, drop, length-append, length-drop}
+use lib.ListN.{length, getD, take, drop}
 use lib.Seq.{take-at, drop-append-add, drop-drop, getD-drop}
 use Rattle.field.specs.Field.{difference, product, power, inverse}
 use Rattle.field.specs.Points.{rootOf}
@@ -13,9 +13,8 @@ use Rattle.field.specs.Size.{sizeOf}
 use Rattle.field.specs.Symbol.{Symbols}
 use Rattle.field.proofs.Ring.{product-lt}
 use Rattle.poly.specs.Tab.{tab}
-use Rattle.poly.specs.Value.{value}
 use Rattle.poly.proofs.Symbols.{tab-symbols}
-use Rattle.poly.proofs.Tab.{tab-length, tab-at, tab-ext}
+use Rattle.poly.proofs.Tab.{tab-length, tab-ext}
 use Rattle.halving.specs.Ready.{Ready}
 use Rattle.halving.specs.Transform.{sums}
 use Rattle.powers.specs.Part.{part, replaced}

@@ -1,12 +1,12 @@
 -- A polynomial that is 0 at distinct points is another one, shorter by as many coefficients, times the product over these points.
 -- Assumes nothing.
-use mathlib.Core.Path.{_≡_, refl, ap}
+use mathlib.Core.Path.{_≡_}
 use mathlib.Core.List.{List, [], _∷_}
 use Prim.Native.Nat.{ℕ, _+_, _*_}
 use native.Mathlib.Omega.{arith}
 use lib.ListN.{length}
 use Rattle.field.specs.Congruence.{_≈_}
-use Rattle.field.proofs.Congruence.{≈-of, ≈-sym, _∘≈_, _+≈_, _·≈_, comb}
+use Rattle.field.proofs.Congruence.{≈-of, ≈-sym, _+≈_, _·≈_, comb}
 use Rattle.poly.specs.Distinct.{Distinct}
 use Rattle.poly.specs.Division.{quotient}
 use Rattle.poly.specs.Every.{Every}

@@ -3,17 +3,16 @@
 use mathlib.Core.Path.{_≡_, refl, sym, ap, ap₂, subst, _∙_}
 use mathlib.Core.Bool.{Bool, true, false, not}
 use mathlib.Core.List.{List, [], _∷_, _++_}
-use Prim.Native.Nat.{ℕ, _+_, _-_, _*_, _/_, _^_, _<_, _≤_}
-use native.Mathlib.Nat.{le-of-eq, mul-div-cancel, zero-add}
+use Prim.Native.Nat.{ℕ, _+_, _-_, _*_, _^_, _<_, _≤_}
+use native.Mathlib.Nat.{le-of-eq}
 use native.Mathlib.Omega.{arith}
 use borrow.Author.Tests.{not-true, not-false}
 use lib.ListN.{length, getD, take, drop}
-use lib.Pow.{pow-pos}
-use lib.Seq.{length-take-le, take-all, take-take, take-at, drop-at, drop-append-add, drop-drop, getD-take}
+use lib.Seq.{length-take-le, take-all, take-take, take-at, drop-append-add, drop-drop, getD-take}
 use Rattle.field.specs.Congruence.{_≈_}
 use Rattle.field.specs.Field.{product, inverse}
 use Rattle.field.specs.Points.{rootOf}
-use Rattle.field.specs.Size.{levelOf, sizeOf}
+use Rattle.field.specs.Size.{levelOf}
 use Rattle.field.specs.Symbol.{Symbols}
 use Rattle.field.proofs.Congruence.{≈-of, _∘≈_, _·≈_, comb, reduced}
 use Rattle.field.proofs.Ring.{product-≈, product-lt}
@@ -21,14 +20,13 @@ use Rattle.poly.specs.Products.{times, vanishing}
 use Rattle.poly.specs.Tab.{tab}
 use Rattle.poly.specs.Value.{value}
 use Rattle.poly.proofs.Tab.{tab-length, tab-ext, tab-getD}
-use Rattle.halving.specs.Ready.{Ready}
 use Rattle.halving.specs.Transform.{sums}
 use Rattle.powers.specs.Part.{part, replaced}
 use Rattle.powers.specs.Turns.{Tabled}
 use Rattle.powers.proofs.Part.{replaced-length, replaced-part, replaced-behind}
-use Rattle.coset.specs.Room.{Table, Room}
+use Rattle.coset.specs.Room.{Room}
 use Rattle.coset.proofs.Room.{size-N, size-K, levels, table-kept}
-use Rattle.coset.proofs.Turning.{tabled}
+use Rattle.coset.proofs.Turning.{whole-tabled}
 use Rattle.divide.specs.Dividing.{Divides, Missing, Inverses, quotients, untwisted, ZeroFrom, Told, Solved}
 use Rattle.divide.proofs.Dividing.{Found, grown, unit, entry-of, zero-from, found}
 use Rattle.divide.proofs.Quotienting.{sums-length, sums-symbols}
@@ -41,14 +39,8 @@ Finds k missing d N r s K =
     × (drop (2 * N) s ≡ drop (2 * N) d)
 
 module _ (k missing N K : ℕ) (d : List ℕ) (room : Room N K d) (few : k ≤ K) where
-  h : List ℕ
-  h = take N d
-
   h-long : length (take N d) ≡ N
   h-long = length-take-le N d (omega (arith, room .table .long))
-
-  N-some : 0 < N
-  N-some = omega (arith, size-N N d (room .table), pow-pos (levelOf N))
 
   size-h : length (take N d) ≡ 2 ^ levelOf N
   size-h = h-long ∙ size-N N d (room .table)
@@ -71,10 +63,7 @@ module _ (k missing N K : ℕ) (d : List ℕ) (room : Room N K d) (few : k ≤ K
   -- What the first transform asks, and what it leaves
 
   pub first-asked : Tabled d 0 N (3 * N) 2
-  first-asked =
-      subst (Tabled d 0 N (3 * N)) (mul-div-cancel 2 N-some)
-      (tabled N N 0 d (room .table) (room .table .N-power) (le-of-eq refl) (omega arith)
-      (record { size = h-long ∙ room .table .N-power ∙ ap sizeOf (sym h-long); symbols = room .symbols }))
+  first-asked = whole-tabled N d (room .table) (room .symbols)
 
   module _ (s : List ℕ) (is : s ≡ replaced 0 N d (sums (inverse (rootOf N)) (part 0 N d))) where
     inside : 0 + N ≤ length d

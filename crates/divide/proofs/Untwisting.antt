@@ -1,16 +1,14 @@
 -- From the values at the K points between back to the k coefficients: the sums at w's inverse are the coefficients of f(ψ·X).
 -- Assumes nothing.
-use mathlib.Core.Path.{_≡_, refl, sym, ap, _∙_}
+use mathlib.Core.Path.{_≡_, sym, ap, _∙_}
 use mathlib.Core.List.{List}
-use Prim.Native.Nat.{ℕ, zero, suc, _+_, _-_, _*_, _^_, _%_, _<_, _≤_}
-use native.Mathlib.Nat.{mul-comm}
+use Prim.Native.Nat.{ℕ, _+_, _-_, _*_, _^_, _%_, _<_, _≤_}
 use native.Mathlib.Omega.{arith}
 use lib.ListN.{length, getD}
 use lib.Pow.{pow-pos, pow-mono, pow-add}
 use Rattle.field.specs.Congruence.{_≈_}
 use Rattle.field.specs.Field.{difference, product, inverse, power}
 use Rattle.field.specs.Points.{rootOf}
-use Rattle.field.specs.Roots.{root}
 use Rattle.field.specs.Size.{levelOf}
 use Rattle.field.specs.Symbol.{Symbols}
 use Rattle.field.proofs.Congruence.{≈-refl, ≈-of, ≈-sym, _∘≈_, _+≈_, _·≈_, mul-≈, mod-≈, comb, reduced}
@@ -18,7 +16,6 @@ use Rattle.field.proofs.Fermat.{inverse-≈}
 use Rattle.field.proofs.Powers.{mul-pow}
 use Rattle.field.proofs.Ring.{product-≈, difference-≈, difference-lt, power-≈}
 use Rattle.poly.specs.Products.{vanishing}
-use Rattle.poly.specs.Sum.{total}
 use Rattle.poly.specs.Tab.{tab}
 use Rattle.poly.specs.Value.{value}
 use Rattle.poly.proofs.Sum.{total-≈, total-ext, total-scale}

@@ -2,31 +2,14 @@
 -- Assumes nothing.
 use mathlib.Core.Path.{_≡_, sym, ap, ap₂, _∙_}
 use mathlib.Core.List.{List, _++_}
-use Prim.Native.Nat.{ℕ, zero, suc, _+_, _-_, _*_, _%_, _<_, _≤_}
-use native.Mathlib.Nat.{zero-add, add-zero, suc-add}
+use Prim.Native.Nat.{ℕ, suc, _+_, _-_, _*_, _%_, _<_, _≤_}
+use native.Mathlib.Nat.{zero-add, add-zero}
 use native.Mathlib.Omega.{arith}
 use lib.ListN.{length, getD, replicate, length-replicate, getD-replicate, List·getD-append, List·getD-eq-default}
 use lib.Seq.{getD-append-add}
 use Rattle.poly.specs.Sum.{total}
-use Rattle.poly.proofs.Sum.{total-ext, total-zero}
+use Rattle.poly.proofs.Sum.{total-ext, total-zero, total-append, total-more}
 use Rattle.factors.specs.Factors.{crossed, run, coefficient}
-
--- A sum in parts
-
-total-append : (m n : ℕ) (f : ℕ → ℕ) → total (m + n) f ≡ total m f + total n (λ i. f (m + i))
-unfolding total
-total-append zero n f = rw zero-add (total-ext n f (λ i. f (0 + i)) (λ i h. ap f (sym (zero-add i))) ∙ sym (zero-add _))
-total-append (suc m) n f =
-    rw suc-add
-    (omega (
-      arith,
-      total-append m n (λ i. f (suc i)),
-      total-ext n (λ i. f (suc (m + i))) (λ i. f (suc m + i)) (λ i h. ap f (sym (suc-add m i))),
-    ))
-
-total-more : (n : ℕ) (f : ℕ → ℕ) → total (n + 1) f ≡ total n f + f n
-unfolding total
-total-more n f = total-append n 1 f ∙ ap (total n f +_) (add-zero (f (n + 0)) ∙ ap f (add-zero n))
 
 -- only the terms in the middle are not 0
 total-middle : (m n k : ℕ) (f : ℕ → ℕ) → ((i : ℕ) → i < m → f i ≡ 0) → ((i : ℕ) → i < k → f (m + (n + i)) ≡ 0)

@@ -1,17 +1,17 @@
 -- What writing may do to the output: a put of the bundle's own bytes keeps each byte of the bundle that stands, and leaves all behind its end.
 -- Assumes nothing.
 use mathlib.Core.Path.{_≡_, refl, sym, ap, ap₂, _∙_}
-use mathlib.Core.List.{List, _++_, append-assoc}
+use mathlib.Core.List.{List, _++_}
 use Prim.Native.Nat.{ℕ, _+_, _-_, _<_, _≤_}
 use native.Mathlib.Decide.{decLt}
 use native.Mathlib.Omega.{arith}
 use lib.Dec.{lit<}
-use lib.ListN.{length, getD, take, drop, length-append, take-append-drop}
-use lib.Seq.{ext-getD, drop-append-add, drop-drop, getD-take, length-take-le}
+use lib.ListN.{length, getD, take, take-append-drop}
+use lib.Seq.{ext-getD, getD-take, length-take-le}
 use Rattle.field.specs.Leaves.{written}
 use Rattle.storage.specs.Bytes.{put}
 use Rattle.storage.proofs.BytesLaws.{Alike}
-use Rattle.storage.proofs.PutLaws.{put-length, put-here, put-before, put-past}
+use Rattle.storage.proofs.PutLaws.{put-length, put-behind, put-here, put-before, put-past}
 use Rattle.front.specs.Onward.{Stand, Onward}
 
 module _ (bundle : List ℕ) where
@@ -57,7 +57,6 @@ module _ (bundle : List ℕ) where
         ∙ ap (λ (m : ℕ). getD s m 0) {x = p + 0} {y = p} (omega arith)
 
     pub put-onward : Onward bundle s (put bytes at s)
-    unfolding put
     put-onward =
         record {
           long = put-length bytes at s (omega arith);
@@ -70,13 +69,5 @@ module _ (bundle : List ℕ) where
                       | no past ↦ there p (put-past 1 bytes at s p (omega arith) (omega arith)) ∙ is
                     ]
               ];
-          behind =
-              let front = take at s ++ bytes in
-              let end = at + length bytes in
-              let long : length front ≡ end = length-append (take at s) bytes ∙ omega (arith, length-take-le at s (omega arith)) in
-              ap (drop (length bundle)) (sym (append-assoc (take at s) bytes (drop end s)))
-              ∙ ap (λ (m : ℕ). drop m (front ++ drop end s)) {x = length bundle} {y = length front + (length bundle - end)} (omega arith)
-              ∙ drop-append-add front (drop end s) (length bundle - end)
-              ∙ drop-drop (length bundle - end) end s
-              ∙ ap (λ (m : ℕ). drop m s) {x = end + (length bundle - end)} {y = length bundle} (omega arith);
+          behind = put-behind bytes at s (length bundle) inside (omega arith);
         }

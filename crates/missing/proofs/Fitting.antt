@@ -14,11 +14,11 @@ use Rattle.field.specs.Congruence.{_≈_}
 use Rattle.field.specs.Field.{product}
 use Rattle.field.specs.Points.{pointOf}
 use Rattle.field.specs.Size.{levelOf, sizeOf}
-use Rattle.field.proofs.Congruence.{≈-refl, ≈-of, ≈-sym, _∘≈_, _+≈_, _·≈_, mul-≈, mod-≈, comb}
+use Rattle.field.proofs.Congruence.{≈-refl, ≈-of, ≈-sym, _∘≈_, _·≈_, mul-≈, mod-≈, comb}
 use Rattle.field.proofs.Fermat.{no-divisors}
 use Rattle.field.proofs.Ring.{product-≈}
-use Rattle.field.proofs.Shape.{shape-good, longest-le, longest-twice}
-use Rattle.field.proofs.Size.{level-least, level-size, size-power, size-enough}
+use Rattle.field.proofs.Shape.{shape-good, longest-le}
+use Rattle.field.proofs.Size.{size-power, size-enough}
 use Rattle.poly.specs.Distinct.{Distinct}
 use Rattle.poly.specs.Every.{Every}
 use Rattle.poly.specs.Products.{vanishing}
@@ -32,7 +32,7 @@ use Rattle.code.specs.Held.{Held}
 use Rattle.code.specs.Meeting.{polynomialOf, messageOf}
 use Rattle.code.specs.Ready.{Ready}
 use Rattle.code.proofs.Decoding.{symbol-≈, decodes-fitting, decodes-none}
-use Rattle.code.proofs.Meeting.{message-polynomial, polynomial-message, message-of, polynomial-long, polynomial-symbols}
+use Rattle.code.proofs.Meeting.{polynomial-message, message-of, polynomial-long, polynomial-symbols}
 use Rattle.code.proofs.Points.{points-length, points-apart}
 use Rattle.divide.specs.Dividing.{Divides, Missing, Solved}
 use Rattle.missing.specs.Missing.{Marks, missing, weights, Weighted}

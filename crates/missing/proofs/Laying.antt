@@ -2,9 +2,8 @@
 -- Assumes nothing.
 use mathlib.Core.Path.{_≡_, refl, sym, ap, ap₂, _∙_}
 use mathlib.Core.Bool.{Bool, true, false, cond}
-use mathlib.Core.List.{List, [], _∷_, _++_, append-assoc}
+use mathlib.Core.List.{List, _∷_, _++_, append-assoc}
 use Prim.Native.Nat.{ℕ, zero, suc, _+_, _-_, _*_, _<_, _≤_}
-use native.Mathlib.Nat.{add-zero}
 use native.Mathlib.Numerals.{add-one}
 use native.Mathlib.Omega.{arith}
 use lib.Dec.{eqb}
@@ -30,9 +29,6 @@ unmarked-le N marks (suc b) = at (eqb (getD marks b 0) 0) (unmarked-le N marks b
     at false h = omega arith
 
 module _ (N : ℕ) (d : List ℕ) where
-  marks : List ℕ
-  marks = take N (drop (2 * N) d)
-
   -- the first j positions are passed, and the points begin at place
   pub laid : ℕ → ℕ → List ℕ
   laid place j = replicate place 0 ++ (unmarked N (take N (drop (2 * N) d)) j ++ drop N d)

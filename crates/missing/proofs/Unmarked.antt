@@ -4,27 +4,26 @@ use mathlib.Core.Path.{_≡_, refl, sym, ap, _∙_}
 use mathlib.Core.Bool.{Bool, true, false, cond}
 use mathlib.Core.List.{List, [], _∷_, _++_}
 use mathlib.Core.Logic.{inl, inr}
-use Prim.Native.Nat.{ℕ, zero, suc, _+_, _-_, _*_, _^_, _%_, _<_, _≤_, suc-le-suc}
+use Prim.Native.Nat.{ℕ, zero, suc, _+_, _-_, _*_, _^_, _<_, _≤_, suc-le-suc}
 use native.Mathlib.Decide.{decLe}
 use native.Mathlib.Nat.{not-suc-le-zero, eq-or-lt-of-le, le-of-suc-le-suc, pow-suc}
 use native.Mathlib.Omega.{arith}
-use borrow.Author.Tests.{eqb-true, eqb-false, eq-eqb}
+use borrow.Author.Tests.{eqb-true, eq-eqb}
 use lib.Dec.{eqb}
 use lib.ListN.{length, getD, replicate, length-append, length-replicate}
-use lib.Pow.{pow-pos}
 use Rattle.field.specs.Congruence.{_≈_}
 use Rattle.field.specs.Field.{power}
 use Rattle.field.specs.Points.{rootOf, pointOf}
 use Rattle.field.specs.Roots.{root, HasOrder}
 use Rattle.field.specs.Size.{levelOf, sizeOf}
-use Rattle.field.proofs.Congruence.{≈-refl, ≈-of, ≈-sym, _∘≈_, _+≈_, _·≈_, pow-≈, comb}
+use Rattle.field.proofs.Congruence.{≈-of, ≈-sym, _∘≈_, _+≈_, _·≈_, pow-≈, comb}
 use Rattle.field.proofs.Powers.{full-power}
 use Rattle.field.proofs.Ring.{power-≈}
 use Rattle.field.proofs.Roots.{root-full, root-order, powers-distinct}
 use Rattle.field.proofs.Size.{level-le, level-size, size-power}
 use Rattle.poly.specs.Distinct.{Distinct}
 use Rattle.poly.specs.Every.{Every}
-use Rattle.poly.specs.Products.{times, vanishing}
+use Rattle.poly.specs.Products.{vanishing}
 use Rattle.poly.specs.Value.{value}
 use Rattle.poly.proofs.Counting.{vanishing-is-zero}
 use Rattle.poly.proofs.Every.{every-map, every-append}

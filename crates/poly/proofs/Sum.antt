@@ -2,7 +2,7 @@
 -- Assumes nothing.
 use mathlib.Core.Path.{_≡_, refl, sym, ap, _∙_}
 use Prim.Native.Nat.{ℕ, zero, suc, _+_, _*_, _<_, suc-le-suc}
-use native.Mathlib.Nat.{zero-lt-suc, le-of-suc-le-suc, not-suc-le-zero, suc-inj}
+use native.Mathlib.Nat.{zero-add, suc-add, zero-lt-suc, le-of-suc-le-suc, not-suc-le-zero, suc-inj}
 use native.Mathlib.Omega.{arith}
 use Rattle.field.specs.Congruence.{_≈_}
 use Rattle.field.proofs.Congruence.{≈-refl, ≈-of, _∘≈_, _+≈_}
@@ -58,3 +58,19 @@ total-single (suc n) f (suc l) h none =
     none 0 (zero-lt-suc n) (λ e. omega arith)
     +≈ total-single n (λ i. f (suc i)) l (le-of-suc-le-suc h) (λ i k d. none (suc i) (suc-le-suc k) (λ e. d (suc-inj e)))
     ∘≈ ≈-of {b = f (suc l)} (omega arith)
+
+-- a sum in two parts, and one term more
+pub total-append : (m n : ℕ) (f : ℕ → ℕ) → total (m + n) f ≡ total m f + total n (λ i. f (m + i))
+unfolding total
+total-append zero n f = rw zero-add (total-ext n f (λ i. f (0 + i)) (λ i h. ap f (sym (zero-add i))) ∙ sym (zero-add _))
+total-append (suc m) n f =
+    rw suc-add
+    (omega (
+      arith,
+      total-append m n (λ i. f (suc i)),
+      total-ext n (λ i. f (suc (m + i))) (λ i. f (suc m + i)) (λ i h. ap f (sym (suc-add m i))),
+    ))
+
+pub total-more : (n : ℕ) (f : ℕ → ℕ) → total (n + 1) f ≡ total n f + f n
+unfolding total
+total-more n f = total-append n 1 f ∙ ap (total n f +_) (omega (arith, ap f {x = n + 0} {y = n} (omega arith)))

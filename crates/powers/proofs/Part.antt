@@ -5,7 +5,7 @@ use mathlib.Core.List.{List, _++_, append-assoc}
 use Prim.Native.Nat.{ℕ, _+_, _-_, _<_, _≤_}
 use native.Mathlib.Omega.{arith}
 use lib.ListN.{length, getD, take, drop, set, length-append, length-take, length-drop, take-append-drop, List·getD-append}
-use lib.Seq.{length-take-le, take-at, drop-at, take-set-le, drop-set-add, set-append-left, drop-drop, take-add, getD-append-add, getD-drop}
+use lib.Seq.{take-append-le, take-take, length-take-le, take-at, drop-at, take-set-le, drop-set-add, set-append-left, drop-drop, take-add, getD-append-add, getD-drop}
 use Rattle.powers.specs.Part.{part, replaced}
 
 pub part-length : (at size : ℕ) (c : List ℕ) → at + size ≤ length c → length (part at size c) ≡ size
@@ -19,6 +19,11 @@ pub replaced-self : (at size : ℕ) (c : List ℕ) → c ≡ replaced at size c 
 replaced-self at size c =
     sym (take-append-drop at c)
     ∙ ap (take at c ++_) (sym (take-append-drop size (drop at c)) ∙ ap (part at size c ++_) (drop-drop size at c))
+
+-- what stands before a part stays
+pub replaced-front : (m at size : ℕ) (c new : List ℕ) → m ≤ at → at ≤ length c → take m (replaced at size c new) ≡ take m c
+replaced-front m at size c new l inside =
+    take-append-le m (take at c) (new ++ drop (at + size) c) (omega (arith, length-take-le at c inside)) ∙ take-take m at c l
 
 module _ (at size : ℕ) (c : List ℕ) (h : at + size ≤ length c) where
   front-length : length (take at c) ≡ at

@@ -1,21 +1,21 @@
 -- From the coefficients of M to its values at the N points and to the inverses at the points between, and where nothing is missing that M is 1.
 -- Assumes nothing.
-use mathlib.Core.Path.{_≡_, refl, sym, ap, ap₂, subst, _∙_}
+use mathlib.Core.Path.{_≡_, refl, sym, ap, subst, _∙_}
 use mathlib.Core.Bool.{false}
 use mathlib.Core.List.{List, [], _∷_, _++_, append-assoc}
 use Prim.Native.Nat.{ℕ, _+_, _-_, _*_, _%_, _^_, _<_, _≤_}
-use native.Mathlib.Nat.{le-of-eq, le-trans, le-of-lt}
+use native.Mathlib.Nat.{le-of-eq, le-trans}
 use native.Mathlib.Omega.{arith}
 use lib.ListN.{length, getD, take, drop, replicate, length-append, length-drop, length-replicate, take-append-drop}
 use lib.Pow.{pow-pos, pow-mono}
-use lib.Seq.{length-take-le, take-at, take-append-le, drop-at, drop-append-add, drop-append-seam, drop-drop, getD-take, getD-drop}
+use lib.Seq.{length-take-le, take-at, drop-at, drop-append-add, drop-drop, getD-take}
 use Rattle.field.specs.Congruence.{_≈_}
 use Rattle.field.specs.Field.{product, power, inverse}
 use Rattle.field.specs.Points.{rootOf, pointOf}
 use Rattle.field.specs.Shape.{badShape}
 use Rattle.field.specs.Size.{levelOf, sizeOf}
 use Rattle.field.specs.Symbol.{Symbols}
-use Rattle.field.proofs.Congruence.{≈-refl, ≈-of, ≈-sym, _∘≈_, _·≈_, mul-≈, mod-≈}
+use Rattle.field.proofs.Congruence.{≈-refl, ≈-of, ≈-sym, _∘≈_, mul-≈, mod-≈}
 use Rattle.field.proofs.Fermat.{inverse-≈, no-divisors}
 use Rattle.field.proofs.Ring.{product-≈, power-≈, power-lt}
 use Rattle.field.proofs.Shape.{shape-good, longest-le, longest-twice}

@@ -2,12 +2,12 @@
 -- Assumes nothing.
 use mathlib.Core.Path.{_≡_, refl, sym, ap, ap₂, subst, _∙_}
 use mathlib.Core.List.{List, [], _∷_, _++_, append-assoc}
-use Prim.Native.Nat.{ℕ, zero, suc, _+_, _-_, _*_, _/_, _%_, _^_, _<_, _≤_}
+use Prim.Native.Nat.{ℕ, zero, suc, _+_, _-_, _*_, _/_, _^_, _<_, _≤_}
 use native.Mathlib.Nat.{zero-mul, mod-eq-of-lt, le-of-eq, le-trans}
 use native.Mathlib.Omega.{arith}
 use lib.Dec.{lit<}
 use lib.ListN.{length, getD, take, drop, set, replicate, length-set, length-append, length-drop, length-replicate, getD-replicate}
-use lib.Pow.{pow-mono, pow-pos}
+use lib.Pow.{pow-pos}
 use lib.Seq.{length-take-le, take-at, drop-at, take-take, take-append-add, drop-append-add, drop-drop, getD-take, getD-drop, getD-append-add, set-at, ext-getD}
 use Rattle.field.specs.Field.{difference, product}
 use Rattle.field.specs.Size.{levelOf, sizeOf}
@@ -19,7 +19,7 @@ use Rattle.poly.specs.Raised.{raised}
 use Rattle.poly.specs.Tab.{tab}
 use Rattle.poly.proofs.Products.{vanishing-length, vanishing-symbols}
 use Rattle.poly.proofs.Symbols.{append-symbols}
-use Rattle.poly.proofs.Tab.{tab-length, tab-ext, tab-getD}
+use Rattle.poly.proofs.Tab.{tab-ext, tab-getD}
 use Rattle.powers.specs.Part.{part, replaced}
 use Rattle.powers.proofs.Part.{part-length, part-join, replaced-length, replaced-at, replaced-behind, returned-part}
 use Rattle.factors.specs.Factors.{lowersOf}
@@ -50,9 +50,6 @@ pub zeros-symbols : (p : ℕ) → Symbols (replicate p 0)
 zeros-symbols p i l = rw (getD-replicate {A = ℕ} p i 0 0 (omega (arith, length-replicate {A = ℕ} p 0))) (lit< tt)
 
 module _ (N u : ℕ) (d : List ℕ) (long : length d ≡ 4 * N) (N-power : N ≡ sizeOf N) (N-root : levelOf N < 16) (some : 0 < u) (few : u ≤ N) (zeros : take (N - u) d ≡ replicate (N - u) 0) (small : Symbols (part (N - u) u d)) where
-  points : List ℕ
-  points = part (N - u) u d
-
   points-length : length (part (N - u) u d) ≡ u
   points-length = part-length (N - u) u d (omega (arith, long))
 

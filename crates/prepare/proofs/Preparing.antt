@@ -1,43 +1,19 @@
 -- What the cells hold after each step of the preparation, up to what it promises.
 -- Assumes nothing.
-use mathlib.Core.Path.{_≡_, refl, sym, ap, ap₂, subst, _∙_}
-use mathlib.Core.Bool.{false}
-use mathlib.Core.List.{List, [], _∷_, _++_, append-nil, append-assoc}
-use Prim.Native.Nat.{ℕ, suc, _+_, _-_, _*_, _%_, _^_, _<_, _≤_}
-use native.Mathlib.Nat.{mul-comm, le-of-eq, le-trans}
+use mathlib.Core.Path.{_≡_, refl, sym, ap, ap₂, _∙_}
+use mathlib.Core.List.{List, [], _++_, append-nil, append-assoc}
+use Prim.Native.Nat.{ℕ, _+_, _-_, _*_, _<_, _≤_}
+use native.Mathlib.Nat.{le-of-eq}
 use native.Mathlib.Omega.{arith}
-use lib.Dec.{lit<}
-use lib.ListN.{length, getD, take, drop, replicate, length-append, length-take, length-drop, length-replicate, getD-replicate, drop-of-length-le, List·getD-append}
-use lib.Pow.{pow-pos, pow-mono}
-use lib.Seq.{length-take-le, take-at, drop-at, take-take, take-append-le, drop-append-le, drop-append-add, drop-drop, getD-take, getD-drop, ext-getD}
-use Rattle.field.specs.Congruence.{_≈_}
-use Rattle.field.specs.Field.{product, power, inverse}
-use Rattle.field.specs.Points.{rootOf, pointOf}
-use Rattle.field.specs.Roots.{root}
-use Rattle.field.specs.Size.{levelOf, sizeOf}
-use Rattle.field.specs.Symbol.{Symbols}
-use Rattle.field.proofs.Congruence.{≈-refl, ≈-of, ≈-sym, _∘≈_, _·≈_, mul-≈, mod-≈}
-use Rattle.field.proofs.Fermat.{inverse-≈, no-divisors}
-use Rattle.field.proofs.Ring.{product-≈, power-≈, power-lt}
-use Rattle.poly.specs.Every.{Every}
-use Rattle.poly.specs.Products.{times, vanishing}
+use lib.ListN.{length, getD, take, drop, replicate, length-append, length-drop, length-replicate, getD-replicate, drop-of-length-le, List·getD-append}
+use lib.Seq.{length-take-le, take-at, drop-at, take-append-le, drop-append-add, drop-drop, getD-take, getD-drop, ext-getD}
+use Rattle.field.specs.Field.{power}
+use Rattle.field.specs.Size.{sizeOf}
 use Rattle.poly.specs.Tab.{tab}
-use Rattle.poly.specs.Value.{value}
-use Rattle.poly.proofs.Every.{every-map}
-use Rattle.poly.proofs.Products.{vanishing-length, vanishing-symbols}
-use Rattle.poly.proofs.Symbols.{symbols-at, append-symbols}
-use Rattle.poly.proofs.Tab.{tab-length, tab-at, tab-ext}
-use Rattle.poly.proofs.Value.{value-≈, value-append, value-zeros}
-use Rattle.halving.specs.Transform.{transformOf}
-use Rattle.halving.proofs.Sums.{values}
-use Rattle.halving.proofs.Undo.{transform-values}
+use Rattle.poly.proofs.Tab.{tab-length}
 use Rattle.powers.specs.Part.{part}
-use Rattle.coset.specs.Between.{psi, between, valuesBetween}
-use Rattle.coset.specs.Room.{Table, Room}
-use Rattle.coset.proofs.Between.{between-apart}
-use Rattle.coset.proofs.Room.{size-N, size-K, levels}
-use Rattle.divide.specs.Dividing.{Inverses}
-use Rattle.missing.specs.Missing.{missing, weights}
+use Rattle.coset.specs.Between.{psi}
+use Rattle.missing.specs.Missing.{missing}
 use Rattle.missing.proofs.Laying.{unmarked-le}
 
 zeros-taken : (m n : ℕ) → m ≤ n → take m (replicate {A = ℕ} n 0) ≡ replicate m 0
@@ -132,9 +108,6 @@ module _ (N : ℕ) (d : List ℕ) (long : length d ≡ 4 * N) where
       marks-are = ap (take N) (clean-rest (2 * N) (le-of-eq refl)) ∙ laid-marks
 
       module _ (r : ℕ) (s : List ℕ) (count : r ≡ length (missing N (take N (drop (2 * N) clean)))) (points : s ≡ replicate (N - r) 0 ++ (missing N (take N (drop (2 * N) clean)) ++ drop N clean)) where
-        zs : List ℕ
-        zs = missing N (take N (drop (2 * N) d))
-
         pub begun-count : r ≡ length (missing N (take N (drop (2 * N) d)))
         begun-count = count ∙ ap (λ (m : List ℕ). length (missing N m)) marks-are
 

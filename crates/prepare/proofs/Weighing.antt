@@ -1,46 +1,25 @@
 -- From the coefficients of M in front: what the cells hold after each step of weighing.
 -- Assumes nothing.
 use mathlib.Core.Path.{_≡_, refl, sym, ap, subst, _∙_}
-use mathlib.Core.List.{List, _++_}
-use Prim.Native.Nat.{ℕ, _+_, _*_, _<_, _≤_}
-use native.Mathlib.Nat.{le-of-eq, mul-div-cancel}
+use mathlib.Core.List.{List}
+use Prim.Native.Nat.{ℕ, _+_, _*_, _≤_}
+use native.Mathlib.Nat.{le-of-eq}
 use native.Mathlib.Omega.{arith}
 use lib.ListN.{length, getD, take, drop}
-use lib.Pow.{pow-pos}
-use lib.Seq.{length-take-le, take-append-le, take-take}
+use lib.Seq.{length-take-le}
 use Rattle.field.specs.Field.{product, inverse}
-use Rattle.field.specs.Size.{levelOf, sizeOf}
 use Rattle.field.specs.Symbol.{Symbols}
 use Rattle.poly.specs.Tab.{tab}
 use Rattle.poly.proofs.Tab.{tab-length, tab-ext}
-use Rattle.halving.specs.Ready.{Ready}
 use Rattle.halving.specs.Transform.{transformOf}
 use Rattle.halving.proofs.Undo.{transform-length}
 use Rattle.powers.specs.Part.{part, replaced}
 use Rattle.powers.specs.Turns.{Tabled}
-use Rattle.powers.proofs.Part.{replaced-length, replaced-part, replaced-at, replaced-behind}
+use Rattle.powers.proofs.Part.{replaced-front, replaced-length, replaced-part, replaced-at, replaced-behind}
 use Rattle.coset.specs.Between.{valuesBetween}
-use Rattle.coset.specs.Room.{Table, Room}
-use Rattle.coset.proofs.Room.{size-N, N-small, table-kept}
-use Rattle.coset.proofs.Turning.{tabled}
-
--- what stands before a part stays
-pub replaced-front : (m at size : ℕ) (c new : List ℕ) → m ≤ at → at ≤ length c → take m (replaced at size c new) ≡ take m c
-replaced-front m at size c new l inside =
-    take-append-le m (take at c) (new ++ drop (at + size) c) (omega (arith, length-take-le at c inside)) ∙ take-take m at c l
-
--- what a transform of the first N cells asks
-pub whole-tabled : (N : ℕ) (s : List ℕ) → Table N s → Symbols (take N s) → Tabled s 0 N (3 * N) 2
-whole-tabled N s table small =
-    subst (Tabled s 0 N (3 * N)) (mul-div-cancel 2 some)
-    (tabled N N 0 s table (table .N-power) (le-of-eq refl) (omega arith)
-    (record { size = long ∙ table .N-power ∙ ap sizeOf (sym long); symbols = small }))
-  where
-    some : 0 < N
-    some = omega (arith, size-N N s table, pow-pos (levelOf N))
-
-    long : length (take N s) ≡ N
-    long = length-take-le N s (omega (arith, table .long))
+use Rattle.coset.specs.Room.{Room}
+use Rattle.coset.proofs.Room.{N-small, table-kept}
+use Rattle.coset.proofs.Turning.{whole-tabled}
 
 module _ (N K : ℕ) (d : List ℕ) (room : Room N K d) where
   values-length : length (valuesBetween N K (take N d)) ≡ K

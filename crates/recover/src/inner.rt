@@ -1,13 +1,12 @@
-// No entry points: the polynomial through the first k symbols, compared with all m. The caller has made the checks.
+// No entry points: the message that fits all held symbols, by division by the product over the missing points. The caller has made the checks.
 use cells::inner::clear;
 use cells::inner::copy;
 use field::Outcome;
 use field::Refusal;
-use field::inner::point;
-use field::inner::position;
+use field::inner::product;
 use field::inner::size;
-use newton::inner::build;
-use poly::inner::value;
+use field::inner::wide;
+use prepare::inner::prepare;
 ghost use mathlib.Core.Path.{_≡_};
 ghost use mathlib.Core.Bool.{cond};
 ghost use mathlib.Core.Option.{some, none};
@@ -16,27 +15,40 @@ ghost use lib.ListN.{length, take};
 ghost use Rattle.field.specs.Leaves.{left};
 ghost use Rattle.field.specs.Refusals.{toldOutcome};
 ghost use Rattle.code.specs.Decoded.{decoded};
-ghost use Rattle.code.specs.Decoding.{firstWrong, decodeOf};
+ghost use Rattle.code.specs.Decoding.{decodeOf};
 ghost use Rattle.code.specs.Held.{held};
 ghost use Rattle.code.specs.Meeting.{messageOf};
+ghost use Rattle.code.specs.Positions.{Inside};
 ghost use Rattle.code.specs.Ready.{Ready};
+ghost use Rattle.code.specs.Repeats.{Apart};
 ghost use Rattle.code.specs.Rooms.{decodeRoom};
+ghost use Rattle.missing.specs.Missing.{Marks};
+ghost use Rattle.recover.specs.Multiplied.{Multiplied};
 
-// The first index at which the message of a polynomial has another value than is held, m where there is none: all m are compared.
-fn first_wrong(n: usize, polynomial: &[u32], positions: &[u32], values: &[u32]) -> usize
-    requires { ⌜ length (now positions) ≡ length (now values) ⌝ }
-    ensures { λ r. ⌜ r ≡ firstWrong n (held (now (positions .entry)) (now (values .entry))) (messageOf (now (polynomial .entry))) ⌝ }
+// A mark at each held position, and 0 at the others.
+fn mark(positions: &[u32], marks: &mut [u32])
+    requires { ⌜ Inside (length (now marks)) (now positions) ⌝ }
+    ensures { λ _. ⌜ Marks (length (now (marks .entry))) (now (positions .entry)) (now (marks .exit)) ⌝ }
 {
-    let size = size(n);
-    let mut j = 0;
-    while j < positions.len() {
-        let x = point(position(positions[j]), size);
-        if value(polynomial, x.0) != values[j] {
-            return j;
-        }
-        j += 1;
+    clear(marks);
+    let mut t = 0;
+    while t < positions.len() {
+        marks[wide(positions[t])] = 1;
+        t += 1;
     }
-    j
+}
+
+// Each held value, times the number that stands at its position, in its place.
+fn multiply_in(positions: &[u32], values: &[u32], list: &mut [u32])
+    requires { ⌜ (length (now positions) ≡ length (now values)) × Inside (length (now list)) (now positions) × Apart (now positions) ⌝ }
+    ensures { λ _. ⌜ Multiplied (length (now (positions .entry))) (now (positions .entry)) (now (values .entry)) (now (list .entry)) (now (list .exit)) ⌝ }
+{
+    let mut t = 0;
+    while t < positions.len() {
+        let at = wide(positions[t]);
+        list[at] = product(values[t], list[at]);
+        t += 1;
+    }
 }
 
 // Whether a message fits, which then stands at the front of the stated working space.
@@ -44,9 +56,11 @@ fn solve(k: usize, n: usize, positions: &[u32], values: &[u32], cells: &mut [u32
     requires { ⌜ Ready k n (held (now positions) (now values)) × (length (now cells) ≡ decodeRoom n) ⌝ }
     ensures { λ r. ⌜ decodeOf k n (held (now (positions .entry)) (now (values .entry))) ≡ cond r (some (messageOf (take k (now (cells .exit))))) none ⌝ }
 {
-    build(k, n, positions, values, &mut cells[0..2 * k + 1]);
-    let wrong = first_wrong(n, &cells[0..k], positions, values);
-    positions.len() <= wrong
+    let size = size(n);
+    mark(positions, &mut cells[2 * size..3 * size]);
+    let missing = prepare(k, n, cells);
+    multiply_in(positions, values, &mut cells[0..size]);
+    divide::inner::solve(k, n, missing, cells)
 }
 
 // The message that fits at the output's front, or DISAGREE.

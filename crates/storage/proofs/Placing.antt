@@ -3,7 +3,7 @@
 use mathlib.Core.Path.{_≡_, refl, sym, ap, _∙_}
 use mathlib.Core.Bool.{Bool, true, false, cond}
 use mathlib.Core.List.{List, _++_, append-assoc}
-use Prim.Native.Nat.{ℕ, _+_, _-_, _*_, _≤_}
+use Prim.Native.Nat.{ℕ, _+_, _-_, _*_, _<_, _≤_}
 use native.Mathlib.Nat.{zero-add}
 use native.Mathlib.Omega.{arith}
 use borrow.Author.Tests.{eq-eqb, ne-eqb}
@@ -11,9 +11,9 @@ use lib.Dec.{eqb}
 use lib.ListN.{length, take, drop, length-append, length-drop, take-append-drop}
 use lib.Seq.{length-take-le}
 use Rattle.storage.specs.Bytes.{two, put}
-use Rattle.storage.specs.Storage.{wordOf, stored}
+use Rattle.storage.specs.Storage.{wordOf, stored, bodySize}
 use Rattle.storage.proofs.BytesLaws.{two-length}
-use Rattle.storage.proofs.PutLaws.{put-at, put-length, parted}
+use Rattle.storage.proofs.PutLaws.{put-at, put-length, put-behind, parted}
 
 -- s, t and u are a body before, between and after the puts
 module _ (count done b x : ℕ) (s : List ℕ) where
@@ -50,9 +50,13 @@ module _ (count done b x : ℕ) where
   listed-inner true p body q at e h = put-inner (two b) p body q at (2 * done) e (omega (arith, two-length b))
   listed-inner false p body q at e h = refl
 
-  listed-length : (t : Bool) (body : List ℕ) → 2 * done + 2 ≤ length body → length (cond t (put (two b) (2 * done) body) body) ≡ length body
-  listed-length true body h = put-length (two b) (2 * done) body (omega (arith, two-length b))
-  listed-length false body h = refl
+  listed-length : (t : Bool) (i : ℕ) (s : List ℕ) → i + 2 ≤ length s → length (cond t (put (two b) i s) s) ≡ length s
+  listed-length true i s h = put-length (two b) i s (omega (arith, two-length b))
+  listed-length false i s h = refl
+
+  listed-behind : (t : Bool) (i : ℕ) (s : List ℕ) (m : ℕ) → i + 2 ≤ m → i ≤ length s → drop m (cond t (put (two b) i s) s) ≡ drop m s
+  listed-behind true i s m inside h = put-behind (two b) i s m (omega (arith, two-length b)) h
+  listed-behind false i s m inside h = refl
 
   stored-inner : (p body q : List ℕ) (at : ℕ) → length p ≡ at → 2 * done + 2 ≤ length body → 2 * count + 2 * b + 2 ≤ length body
       → stored at count done b x (p ++ (body ++ q)) ≡ p ++ (stored 0 count done b x body ++ q)
@@ -61,7 +65,7 @@ module _ (count done b x : ℕ) where
       let listed = cond (eqb x 65536) (put (two b) (2 * done) body) body in
       rw (zero-add (2 * count + 2 * b), zero-add (2 * done))
       (ap (put (two (wordOf x)) (at + (2 * count + 2 * b))) (listed-inner (eqb x 65536) p body q at e h)
-      ∙ put-inner (two (wordOf x)) p listed q at (2 * count + 2 * b) e (omega (arith, two-length (wordOf x), listed-length (eqb x 65536) body h)))
+      ∙ put-inner (two (wordOf x)) p listed q at (2 * count + 2 * b) e (omega (arith, two-length (wordOf x), listed-length (eqb x 65536) (2 * done) body h)))
 
   -- the body is lent, and after is what it holds once the symbol is stored
   pub stored-part : (at size : ℕ) (s after : List ℕ) → at + size ≤ length s → 2 * done + 2 ≤ size → 2 * count + 2 * b + 2 ≤ size
@@ -73,3 +77,12 @@ module _ (count done b x : ℕ) where
       ap (λ (body : List ℕ). take at s ++ (body ++ drop m (drop at s))) is
       ∙ sym (stored-inner (take at s) (take m (drop at s)) (drop m (drop at s)) at (length-take-le at s (omega arith)) (omega arith) (omega arith))
       ∙ ap (stored at count done b x) (ap (take at s ++_) (take-append-drop m (drop at s)) ∙ take-append-drop at s)
+
+  -- behind the body, of so many blocks, all is as it was
+  pub stored-behind : (at B : ℕ) (s : List ℕ) (m : ℕ) → b < B → done ≤ count → at + bodySize B count ≤ m → m ≤ length s
+      → drop m (stored at count done b x s) ≡ drop m s
+  unfolding stored bodySize
+  stored-behind at B s m h listed inside room =
+      let long = listed-length (eqb x 65536) (at + 2 * done) s (omega arith) in
+      put-behind (two (wordOf x)) (at + (2 * count + 2 * b)) _ m (omega (arith, two-length (wordOf x))) (omega arith)
+      ∙ listed-behind (eqb x 65536) (at + 2 * done) s m (omega arith) (omega arith)

@@ -33,6 +33,19 @@ pub put-length : (bytes : List ℕ) (at : ℕ) (s : List ℕ) → at + length by
 unfolding put
 put-length bytes at s h = simp (length-append, length-take, length-drop) (omega arith)
 
+-- behind the bytes all is as it was
+pub put-behind : (bytes : List ℕ) (at : ℕ) (s : List ℕ) (m : ℕ) → at + length bytes ≤ m → at ≤ length s → drop m (put bytes at s) ≡ drop m s
+unfolding put
+put-behind bytes at s m inside h =
+    let front = take at s ++ bytes in
+    let end = at + length bytes in
+    let long : length front ≡ end = length-append (take at s) bytes ∙ omega (arith, length-take-le at s h) in
+    ap (drop m) (sym (append-assoc (take at s) bytes (drop end s)))
+    ∙ ap (λ (i : ℕ). drop i (front ++ drop end s)) {x = m} {y = length front + (m - end)} (omega arith)
+    ∙ drop-append-add front (drop end s) (m - end)
+    ∙ drop-drop (m - end) end s
+    ∙ ap (λ (i : ℕ). drop i s) {x = end + (m - end)} {y = m} (omega arith)
+
 -- one put behind another
 pub put-more : (p q : List ℕ) (at next : ℕ) (s : List ℕ) → next ≡ at + length p → at ≤ length s → put q next (put p at s) ≡ put (p ++ q) at s
 unfolding put

@@ -140,6 +140,11 @@ pub body-long : (B : ℕ) (e : ℕ → ℕ) → length (bodyOf B e) ≡ bodySize
 unfolding bodyOf bodySize countOf
 body-long B e = simp (length-append, in-bytes-length, tab-length)
 
+-- the shortest body is one that lists nothing
+pub body-least : (B c : ℕ) → bodySize B 0 ≤ bodySize B c
+unfolding bodySize
+body-least B c = omega arith
+
 body-bytes : (B : ℕ) (e : ℕ → ℕ) → Bytes (bodyOf B e)
 unfolding bodyOf
 body-bytes B e =

@@ -1,12 +1,12 @@
 -- The overflow counts as the writer keeps them in its cells: a block's symbols stand in front, and are counted.
 -- Assumes nothing.
 use mathlib.Core.Path.{_≡_, refl, sym, ap, ap₂, _∙_}
-use mathlib.Core.Bool.{Bool, true, false, cond}
+use mathlib.Core.Bool.{Bool, true, false, cond, not}
 use mathlib.Core.List.{List, [], _∷_, _++_}
 use Prim.Native.Nat.{ℕ, zero, suc, _+_, _-_, _*_, _<_, _≤_}
 use native.Mathlib.Decide.{decLt}
 use native.Mathlib.Omega.{arith}
-use borrow.Author.Tests.{eq-eqb, ne-eqb}
+use borrow.Author.Tests.{eq-eqb, ne-eqb, eqb-true, not-false}
 use lib.Dec.{eqb}
 use lib.ListN.{length, getD, take, drop, replicate, length-append, length-drop, length-replicate, List·getD-append}
 use lib.Seq.{length-take-le, getD-take, getD-drop, getD-append-add}
@@ -17,9 +17,10 @@ use Rattle.code.specs.Code.{codeWord}
 use Rattle.storage.specs.Blocks.{badBundleShape}
 use Rattle.storage.specs.Storage.{overflows, countOf}
 use Rattle.layout.proofs.Holding.{limits}
+use Rattle.storage.proofs.RisingLaws.{none-found, found-none}
 use Rattle.storage.proofs.Storing.{overflow-count}
 use Rattle.words.specs.File.{messageAt, symbolAt}
-use Rattle.words.specs.Counts.{tallied, Coded, Counted}
+use Rattle.words.specs.Counts.{tallied, noneCounted, Coded, Counted}
 use Rattle.words.proofs.Padding.{zeros-behind}
 
 pub n-fits : (k n L : ℕ) → badBundleShape k n L ≡ false → n ≤ sizeOf n
@@ -86,6 +87,15 @@ module _ (n S : ℕ) (cells : List ℕ) (size : S ≡ sizeOf n) (enough : n ≤ 
 
     pub count-here : (i : ℕ) → i < n → getD cells (S + i) 0 ≡ countOf b (symbolAt k n file i)
     count-here i h = ap (λ (m : ℕ). getD cells (m + i) 0) size ∙ counted .counts i h
+
+    pub none-over : noneCounted n S cells ≡ true → (i : ℕ) → i < n → countOf b (symbolAt k n file i) ≡ 0
+    unfolding noneCounted
+    none-over none i h =
+        sym (count-here i h) ∙ eqb-true (getD cells (S + i) 0) 0 (not-false _ (none-found n (λ j. not (eqb (getD cells (S + j) 0) 0)) none i h))
+
+    pub none-listed : ((i : ℕ) → i < n → countOf b (symbolAt k n file i) ≡ 0) → noneCounted n S cells ≡ true
+    unfolding noneCounted
+    none-listed none = found-none n _ (λ i h. simp (eq-eqb (getD cells (S + i) 0) 0 (count-here i h ∙ none i h)))
 
     pub counts-low : b < 65536 → (i : ℕ) → i < n → getD cells (S + i) 0 < 65536
     counts-low few i h = omega (arith, count-here i h, overflow-count (symbolAt k n file i) b)

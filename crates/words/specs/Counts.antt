@@ -1,10 +1,11 @@
 -- What the cells hold while overflows are counted: the code word of a block in front, the counts behind it.
 use mathlib.Core.Path.{_≡_}
-use mathlib.Core.Bool.{cond}
+use mathlib.Core.Bool.{Bool, cond, not}
 use mathlib.Core.List.{List}
 use Prim.Native.Nat.{ℕ, _+_, _*_, _<_}
-use lib.Dec.{eqb}
+use lib.Dec.{leb, eqb}
 use lib.ListN.{length, getD}
+use Rattle.field.specs.First.{first}
 use Rattle.field.specs.Size.{sizeOf}
 use Rattle.storage.specs.Storage.{countOf}
 use Rattle.words.specs.File.{symbolAt}
@@ -12,6 +13,10 @@ use Rattle.words.specs.File.{symbolAt}
 -- a count with one symbol more
 unfoldable pub tallied : ℕ → ℕ → ℕ
 tallied count x = count + cond (eqb x 65536) 1 0
+
+-- each of n counts from an index on is 0
+unfoldable pub noneCounted : ℕ → ℕ → List ℕ → Bool
+noneCounted n size cells = leb n (first n (λ i. not (eqb (getD cells (size + i) 0) 0)))
 
 -- the front cells hold the symbols of block b
 abbrev pub Coded : ℕ → ℕ → List ℕ → ℕ → List ℕ → Type 0

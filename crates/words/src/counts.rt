@@ -3,14 +3,13 @@
 use crate::words::code_block;
 use cells::inner::clear;
 use field::inner::size;
-use layout::inner::blocks;
 ghost use mathlib.Core.Path.{_≡_};
 ghost use mathlib.Core.Bool.{false};
-ghost use Prim.Native.Nat.{ℕ, suc, _+_, _*_, _<_, _≤_};
+ghost use Prim.Native.Nat.{ℕ, _+_, _*_, _<_, _≤_};
 ghost use lib.ListN.{length, getD};
 ghost use Rattle.field.specs.Size.{sizeOf};
 ghost use Rattle.storage.specs.Blocks.{blocksOf, badBundleShape};
-ghost use Rattle.words.specs.Counts.{tallied, Coded, Counted};
+ghost use Rattle.words.specs.Counts.{tallied, noneCounted, Coded, Counted};
 
 fn tally_one(count: u32, symbol: u32) -> u32
     requires { ⌜ count < 65536 ⌝ }
@@ -34,6 +33,21 @@ pub fn tally(n: usize, size: usize, cells: &mut [u32])
     }
 }
 
+// Whether no shadow has an overflow.
+pub fn none_counted(n: usize, size: usize, cells: &[u32]) -> bool
+    requires { ⌜ size + n ≤ length (now cells) ⌝ }
+    ensures { λ r. ⌜ r ≡ noneCounted n size (now (cells .entry)) ⌝ }
+{
+    let mut i = 0;
+    while i < n {
+        if cells[size + i] != 0 {
+            return false;
+        }
+        i += 1;
+    }
+    true
+}
+
 pub fn clear_counts(n: usize, cells: &mut [u32])
     requires { ⌜ (n ≤ sizeOf n) × (length (now cells) ≡ 2 * sizeOf n) ⌝ }
     ensures { λ _. ⌜ ((i : ℕ) → i < n → getD (now (cells .exit)) (sizeOf n + i) 0 ≡ 0) ⌝ }
@@ -50,27 +64,4 @@ pub fn code_front(k: usize, n: usize, file: &[u8], b: usize, cells: &mut [u32])
 {
     let size = size(n);
     code_block(k, n, file, b, &mut cells[0..size]);
-}
-
-fn count_block(k: usize, n: usize, file: &[u8], b: usize, cells: &mut [u32])
-    requires { ⌜ (badBundleShape k n (length (now file)) ≡ false) × (b < blocksOf k (length (now file))) × Counted k n (now file) b (now cells) ⌝ }
-    ensures { λ _. ⌜ Counted k n (now (file .entry)) (suc b) (now (cells .exit)) ⌝ }
-{
-    let size = size(n);
-    code_front(k, n, file, b, cells);
-    tally(n, size, cells);
-}
-
-// The counts of all blocks.
-pub fn count_overflows(k: usize, n: usize, file: &[u8], cells: &mut [u32])
-    requires { ⌜ (badBundleShape k n (length (now file)) ≡ false) × (length (now cells) ≡ 2 * sizeOf n) ⌝ }
-    ensures { λ _. ⌜ Counted k n (now (file .entry)) (blocksOf k (length (now (file .entry)))) (now (cells .exit)) ⌝ }
-{
-    let blocks = blocks(k, file.len());
-    clear_counts(n, cells);
-    let mut b = 0;
-    while b < blocks {
-        count_block(k, n, file, b, cells);
-        b += 1;
-    }
 }

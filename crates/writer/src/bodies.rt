@@ -1,5 +1,6 @@
-// Writing a bundle: one pass over the blocks counts the overflows, of which the table needs the counts, and one writes the bodies. No entry
-// points: the entry point has made the checks, and the crate above reaches what it needs in `inner`.
+// Writing a bundle: the first pass over the blocks counts the overflows, of which the table needs the counts, and writes the bodies as they lie
+// where there is none; if there is one, a second pass writes them anew. No entry points: the entry point has made the checks, and the crate
+// above reaches what it needs in `inner`.
 use cells::inner::clear;
 use field::inner::size;
 use field::inner::wide;
@@ -7,11 +8,11 @@ use front::inner::write_front;
 use layout::inner::blocks;
 use layout::inner::count_in;
 use layout::inner::offset_in;
-use storage::inner::body_size;
-use storage::inner::store;
+use plain::inner::put_at;
+use plain::inner::write_plain;
 use words::inner::clear_counts;
 use words::inner::code_front;
-use words::inner::count_overflows;
+use words::inner::none_counted;
 use words::inner::tally;
 ghost use mathlib.Core.Path.{_≡_};
 ghost use mathlib.Core.Bool.{false};
@@ -37,8 +38,7 @@ fn put_symbol(out: &mut [u8], i: usize, blocks: usize, b: usize, done: usize, sy
 {
     let count = count_in(out, i);
     let at = offset_in(out, i);
-    let end = at + body_size(blocks, count);
-    store(&mut out[at..end], count, done, b, symbol);
+    put_at(out, at, blocks, count, done, b, symbol);
 }
 
 // The symbols of block b into the bodies.
@@ -70,7 +70,7 @@ fn write_block(k: usize, n: usize, file: &[u8], b: usize, out: &mut [u8], cells:
     tally(n, size, cells);
 }
 
-// The bodies, block by block.
+// The bodies, block by block, where the table has placed them.
 fn write_bodies(k: usize, n: usize, file: &[u8], out: &mut [u8], cells: &mut [u32])
     requires { ⌜ (badBundleShape k n (length (now file)) ≡ false) × Progress k n (now file) 0 (now out) × (length (now cells) ≡ 2 * sizeOf n) ⌝ }
     ensures { λ _. ⌜ now (out .exit) ≡ written (fileBundle k n (now (file .entry))) (now (out .entry)) ⌝ }
@@ -90,8 +90,12 @@ fn write_within(k: usize, n: usize, file: &[u8], out: &mut [u8], cells: &mut [u3
     ensures { λ r. ⌜ r ≡ length (fileBundle k n (now (file .entry))) ⌝ }
     ensures { λ _. ⌜ now (out .exit) ≡ written (fileBundle k n (now (file .entry))) (now (out .entry)) ⌝ }
 {
-    count_overflows(k, n, file, cells);
+    let size = size(n);
+    write_plain(k, n, file, out, cells);
     let length = write_front(k, n, file, out, cells);
+    if none_counted(n, size, cells) {
+        return length;
+    }
     write_bodies(k, n, file, out, cells);
     length
 }

@@ -46,7 +46,7 @@ static void choose_words(size_t kind)
     }
 }
 
-void choose_file(size_t k, size_t n, size_t length)
+static void begin_file(size_t k, size_t n, size_t length)
 {
     /* with overflow lists as long as can be, and some bytes for damages that make it longer */
     if (16 + 8 * n + 4 * n * second_blocks(k, length) + 64 > MOST_MADE) {
@@ -58,6 +58,11 @@ void choose_file(size_t k, size_t n, size_t length)
     sent.n = n;
     sent.length = length;
     sent.blocks = second_blocks(k, length);
+}
+
+void choose_file(size_t k, size_t n, size_t length)
+{
+    begin_file(k, n, length);
     choose_words(below(8));
     memset(sent.file + length, 0, 2 * k * sent.blocks - length);
     if (k > 1 && below(2) == 0)
@@ -65,6 +70,24 @@ void choose_file(size_t k, size_t n, size_t length)
             if (below(4) != 0)
                 second_overflow(k, n, sent.file, length, block, below(n));
     second_symbols(k, n, sent.file, length, sent.symbols);
+}
+
+static size_t count_overflows(void)
+{
+    size_t count = 0;
+    for (size_t i = 0; i < sent.n * sent.blocks; i++)
+        count += sent.symbols[i] == 65536;
+    return count;
+}
+
+void choose_lone_overflow(size_t k, size_t n, size_t blocks, size_t block, size_t position)
+{
+    begin_file(k, n, 2 * k * blocks);
+    do { /* junk has one of its own now and then */
+        choose_words(4);
+        second_overflow(k, n, sent.file, sent.length, block, position);
+        second_symbols(k, n, sent.file, sent.length, sent.symbols);
+    } while (count_overflows() != 1 || sent.symbols[block * n + position] != 65536);
 }
 
 void choose_shadows(void)

@@ -48,6 +48,8 @@ enum damage {
 size_t choose_length(size_t k, size_t most_blocks);
 /* A file for the shape, and its symbols. In half of the files most blocks have a symbol 65536. */
 void choose_file(size_t k, size_t n, size_t length);
+/* A file of so many whole blocks that has one symbol 65536, at this block and position. k is 2 at least. */
+void choose_lone_overflow(size_t k, size_t n, size_t blocks, size_t block, size_t position);
 /* How many shadows are held, and which. */
 void choose_shadows(void);
 

@@ -3,16 +3,16 @@
 use mathlib.Core.Path.{_≡_, refl, sym, ap, ap₂, _∙_}
 use mathlib.Core.List.{List}
 use Prim.Native.Nat.{ℕ, _+_, _-_, _*_, _/_, _%_, _<_, _≤_}
-use native.Mathlib.Nat.{mul-le-mul, div-le-self, le-of-eq}
+use native.Mathlib.Nat.{div-le-self}
 use native.Mathlib.Omega.{arith}
 use borrow.Author.Needs.{needs}
 use lib.ListN.{length, getD}
 use Rattle.field.specs.Field.{power}
 use Rattle.field.specs.Symbol.{IsSymbol}
 use Rattle.poly.specs.Sum.{total}
+use Rattle.poly.proofs.Sum.{total-more}
 use Rattle.coset.specs.Between.{psi}
 use Rattle.coset.specs.Room.{Room}
-use Rattle.coset.proofs.Grid.{total-more}
 use Rattle.coset.proofs.Room.{N-small, K-some, rows, inside, power-at, term-le}
 use Rattle.coset.proofs.inner.fold_one.Statement.{statement}
 use Rattle.coset.proofs.inner.fold_one.Tie as tie

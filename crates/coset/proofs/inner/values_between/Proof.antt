@@ -1,6 +1,5 @@
 -- `coset::inner::values_between` meets its contract: what is folded is transformed.
 -- Assumes nothing.
-use mathlib.Core.Path.{_∙_}
 use native.Mathlib.Omega.{arith}
 use borrow.Author.Needs.{needs}
 use Rattle.coset.proofs.Room.{K-some}

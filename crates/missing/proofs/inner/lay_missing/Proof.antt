@@ -11,7 +11,7 @@ use lib.ListN.{length, getD, take, drop, set, replicate}
 use Rattle.field.specs.Field.{product}
 use Rattle.field.specs.Points.{rootOf, pointOf}
 use Rattle.field.specs.Roots.{root}
-use Rattle.field.specs.Size.{levelOf, sizeOf}
+use Rattle.field.specs.Size.{sizeOf}
 use Rattle.field.proofs.Size.{size-small}
 use Rattle.missing.specs.Missing.{unmarked}
 use Rattle.missing.proofs.Laying.{laid, laid-none, laid-long, mark-at, place-some, laid-more, laid-all, first-point, next-point}

@@ -7,8 +7,7 @@ use Prim.Native.Nat.{ℕ, _-_}
 use borrow.Author.Needs.{needs}
 use borrow.Author.Tests.{eq-eqb, ne-eqb}
 use native.Mathlib.Omega.{arith}
-use lib.Dec.{eqb}
-use lib.ListN.{getD, set}
+use lib.ListN.{getD}
 use Rattle.missing.proofs.inner.lay_point.Statement.{statement}
 use Rattle.missing.proofs.inner.lay_point.Tie as tie
 

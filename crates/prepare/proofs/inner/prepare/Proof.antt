@@ -1,6 +1,5 @@
 -- `prepare::inner::prepare` meets its contract, step by step.
 -- Assumes nothing.
-use mathlib.Core.Path.{_∙_}
 use native.Mathlib.Omega.{arith}
 use borrow.Author.Needs.{needs}
 use Rattle.prepare.proofs.Finishing.{power-of-two, root-there, long-N, nothing-missing, product-asked, weigh-asked, something-missing}

@@ -3,7 +3,7 @@
 use native.Mathlib.Omega.{arith}
 use borrow.Author.Needs.{needs}
 use Rattle.field.proofs.Size.{size-small}
-use Rattle.prepare.proofs.Multiplying.{enough, fits, out-asked, product-there, rest-stays}
+use Rattle.prepare.proofs.Multiplying.{fits, out-asked, product-there, rest-stays}
 use Rattle.prepare.proofs.product.multiply_points.Statement.{statement}
 use Rattle.prepare.proofs.product.multiply_points.Tie as tie
 

@@ -1,9 +1,9 @@
--- `recover::inner::solve` meets its contract: the candidate is found, and it fits exactly if none of the m symbols is another.
+-- `recover::inner::solve` meets its contract, step by step.
 -- Assumes nothing.
 use native.Mathlib.Omega.{arith}
 use borrow.Author.Needs.{needs}
 use Rattle.code.specs.Held.{held}
-use Rattle.recover.proofs.Recovering.{cells-enough, part-length, front-inside, solved}
+use Rattle.recover.proofs.Recovering.{in-range, marked-long, mark-asked, prepare-asked, multiply-asked, solve-asked, solved}
 use Rattle.recover.proofs.inner.solve.Statement.{statement}
 use Rattle.recover.proofs.inner.solve.Tie as tie
 
@@ -12,21 +12,19 @@ unfolding held
 solve-spec =
     tie.close
     (tie.spec
-    (λ c. let start = c .before .before .before in omega (arith, cells-enough (start .args .k) (start .args .n) _ (start .pre .0) (start .args .cells .now) (start .pre .1)))
-    (λ c. let start = c .before .before .before in omega (arith, cells-enough (start .args .k) (start .args .n) _ (start .pre .0) (start .args .cells .now) (start .pre .1)))
+    (λ c κs. search needs)
+    (λ c. let start = c .before .before .before .before in omega (arith, in-range (start .args .k) (start .args .n) _ (start .pre .0) (start .args .cells .now) (start .pre .1) _ (c .size .ensures) .0))
+    (λ c. let start = c .before .before .before .before in omega (arith, in-range (start .args .k) (start .args .n) _ (start .pre .0) (start .args .cells .now) (start .pre .1) _ (c .size .ensures) .0))
+    (λ c. let start = c .before .before .before .before in omega (arith, in-range (start .args .k) (start .args .n) _ (start .pre .0) (start .args .cells .now) (start .pre .1) _ (c .size .ensures) .0))
     (λ c. search needs)
     (λ c. search needs)
-    (λ c. let start = c .before .before .before in omega (arith, cells-enough (start .args .k) (start .args .n) _ (start .pre .0) (start .args .cells .now) (start .pre .1)))
-    (λ c κs. let start = c .before .before .before .before in (start .pre .0, part-length (start .args .k) (start .args .n) _ (start .pre .0) (start .args .cells .now) (start .pre .1)))
+    (λ c. let start = c .before .before .before .before in omega (arith, in-range (start .args .k) (start .args .n) _ (start .pre .0) (start .args .cells .now) (start .pre .1) _ (c .size .ensures) .1))
+    (λ c κs. let start = c .before .before .before .before .before in mark-asked (start .args .k) (start .args .n) _ (start .pre .0) (start .args .cells .now) (start .pre .1) _ (c .before .size .ensures))
+    (λ c κs. let start = c .before .before .before .before .before .before .before .before .before in prepare-asked (start .args .k) (start .args .n) _ (start .pre .0) (start .args .cells .now) (start .pre .1) _ (c .before .before .before .before .before .size .ensures) _ (c .before .before .before .mark .ensures))
     (λ c. search needs)
     (λ c. search needs)
-    (λ c.
-    let built = c .before .before .before in
-    let start = built .before .before .before .before .before in
-    front-inside (start .args .k) (start .args .n) _ (start .pre .0) (start .args .cells .now) (start .pre .1) (built .build .last .1 .1 .1 .1 .0) (built .build .kept .1 .1 .1 .1 .0))
-    (λ c κs. c .before .before .before .before .before .before .before .before .before .pre .0 .paired)
+    (λ c. let start = c .before .before .before .before .before .before .before .before .before .before .before .before in omega (arith, c .before .before .prepare .kept .1 .1 .0, marked-long (start .args .k) (start .args .n) _ (start .pre .0) (start .args .cells .now) (start .pre .1) _ (c .before .before .before .before .before .before .before .before .size .ensures) _ (c .before .before .before .before .before .before .mark .ensures), in-range (start .args .k) (start .args .n) _ (start .pre .0) (start .args .cells .now) (start .pre .1) _ (c .before .before .before .before .before .before .before .before .size .ensures) .1))
+    (λ c κs. let start = c .before .before .before .before .before .before .before .before .before .before .before .before .before in multiply-asked (start .args .k) (start .args .n) _ (start .pre .0) (start .args .cells .now) (start .pre .1) _ (c .before .before .before .before .before .before .before .before .before .size .ensures) _ (c .before .before .before .before .before .before .before .mark .ensures) _ _ (c .before .before .before .prepare .kept .1 .1 .0) (c .before .before .before .prepare .ensures))
+    (λ c κs. let start = c .before .before .before .before .before .before .before .before .before .before .before .before .before .before .before .before .before in solve-asked (start .args .k) (start .args .n) _ (start .pre .0) (start .args .cells .now) (start .pre .1) _ (c .before .before .before .before .before .before .before .before .before .before .before .before .before .size .ensures) _ (c .before .before .before .before .before .before .before .before .before .before .before .mark .ensures) _ _ (c .before .before .before .before .before .before .before .prepare .kept .1 .1 .0) (c .before .before .before .before .before .before .before .prepare .ensures) _ (c .before .before .before .multiply-in .ensures))
     (λ c. search needs)
-    (λ c.
-    let built = c .before .before .before .before .before in
-    let start = built .before .before .before .before .before in
-    solved (start .args .k) (start .args .n) _ (start .pre .0) (start .args .cells .now) (start .pre .1) (built .build .last .1 .1 .1 .1 .0) (built .build .kept .1 .1 .1 .1 .0) _ (built .build .ensures) (c .first-wrong .ensures)))
+    (λ c. let start = c .before .before .before .before .before .before .before .before .before .before .before .before .before .before .before .before .before .before .before .before in solved (start .args .k) (start .args .n) _ (start .pre .0) (start .args .cells .now) (start .pre .1) _ (c .before .before .before .before .before .before .before .before .before .before .before .before .before .before .before .before .size .ensures) _ (c .before .before .before .before .before .before .before .before .before .before .before .before .before .before .mark .ensures) _ _ (c .before .before .before .before .before .before .before .before .before .before .prepare .kept .1 .1 .0) (c .before .before .before .before .before .before .before .before .before .before .prepare .ensures) _ (c .before .before .before .before .before .before .multiply-in .ensures) (c .before .before .solve .result) (c .before .before .solve .last .1 .1 .1 .0) (c .before .before .solve .ensures .0)))

@@ -12,7 +12,7 @@ use Rattle.storage.specs.Storage.{countOf}
 use Rattle.layout.proofs.Holding.{limits}
 use Rattle.words.specs.File.{symbolAt, fileBundle}
 use Rattle.front.specs.Onward.{Onward}
-use Rattle.writer.specs.Writing.{Filled}
+use Rattle.plain.specs.Filled.{Filled}
 use Rattle.front.proofs.Bundling.{symbol-small}
 use Rattle.words.proofs.Counting.{n-fits, count-here}
 use Rattle.writer.proofs.Filling.{still-room, turn-inside, turn-done, turn-onward, turn-filled, block-done}

@@ -1,9 +1,10 @@
--- `writer::bodies::write_within` meets its contract: the counts make the table, and behind it stand the bodies.
+-- `writer::bodies::write_within` meets its contract: the counts make the table, and behind it stand the bodies of the first pass, or of the second.
 -- Assumes nothing.
+use mathlib.Core.Path.{sym, _∙_}
 use native.Mathlib.Omega.{arith}
 use borrow.Author.Needs.{needs}
-use Rattle.writer.proofs.Filling.{filled-none}
-use Rattle.front.proofs.Onward.{written-on}
+use Rattle.words.proofs.Counting.{n-fits, none-over}
+use Rattle.writer.proofs.Filling.{plain-stands, second-begun, second-written}
 use Rattle.writer.proofs.bodies.write_within.Statement.{statement}
 use Rattle.writer.proofs.bodies.write_within.Tie as tie
 
@@ -11,22 +12,41 @@ pub write-within-spec : {M : Type 1} → statement M
 write-within-spec =
     tie.close
     (tie.spec
-    (λ c κs. (c .before .before .before .before .pre .0, c .before .before .before .before .pre .2))
-    (λ c κs. (c .before .before .before .before .before .before .before .before .before .pre .0, c .before .before .before .before .before .before .before .before .before .pre .1, c .before .before .before .before .count-overflows .ensures))
+    (λ c κs. search needs)
+    (λ c κs. c .before .before .before .before .before .before .pre)
     (λ c κs.
-    let front = c .before .before .before .before .write-front in
-    let start = c .before .before .before .before .before .before .before .before .before .before .before .before .before .before in (
+    let plain = c .before .before .before .before .before .before .write-plain in
+    (c .before .before .before .before .before .before .before .before .before .before .before .before .before .pre .0, omega (arith, plain .ensures .0 .long, c .before .before .before .before .before .before .before .before .before .before .before .before .before .pre .1), plain .ensures .1 .1))
+    (λ c κs.
+    let start = c .before .before .before .before .before .before .before .before .before .before .before .before .before .before .before .before .before in
+    omega (arith, c .before .before .before .before .before .before .before .before .before .before .before .before .before .size .ensures, c .before .before .before .before .before .before .before .before .before .before .write-plain .ensures .1 .1 .long, n-fits _ (start .args .n) _ (start .pre .0)))
+    (λ c. search needs)
+    (λ c. search needs)
+    (λ c.
+    let plain = c .before .before .before .before .before .before .before .before .before .before .before .before .write-plain in
+    let front = c .before .before .before .before .before .write-front in
+    let start = c .before .before .before .before .before .before .before .before .before .before .before .before .before .before .before .before .before .before .before in
+    let k = start .args .k in
+    let n = start .args .n in
+    let file = start .args .file .now in (
+      front .ensures .0,
+      plain-stands k n file (start .pre .0) (start .args .out .now) (plain .last .1 .1 .1 .0) (front .last .1 .1 .1 .0) (plain .ensures .0) (plain .ensures .1 .0) (front .ensures .1 .0) (front .ensures .1 .1)
+          (none-over n _ (plain .last .1 .1 .1 .1 .0) (c .before .before .before .before .before .before .before .before .before .before .before .before .before .before .before .size .ensures) (n-fits k n _ (start .pre .0)) k file _ (plain .ensures .1 .1) (sym (c .before .none-counted .ensures) ∙ c .if1 .taken)),
+    ))
+    (λ c κs.
+    let plain = c .before .before .before .before .before .before .before .before .before .before .before .before .before .before .write-plain in
+    let front = c .before .before .before .before .before .before .before .write-front in
+    let start = c .before .before .before .before .before .before .before .before .before .before .before .before .before .before .before .before .before .before .before .before .before in (
       start .pre .0,
-      record {
-        room = omega (arith, front .ensures .1 .0 .long, start .pre .1);
-        front = front .ensures .1 .1;
-        bodies = λ i h. filled-none (start .args .k) (start .args .n) (start .args .file .now) i (front .last .1 .1 .1 .0);
-      },
-      omega (arith, c .before .before .before .before .before .before .before .before .before .count-overflows .kept .1 .1 .1 .0, start .pre .2),
+      second-begun (start .args .k) (start .args .n) (start .args .file .now) (start .pre .0) (start .args .out .now) (plain .last .1 .1 .1 .0) (front .last .1 .1 .1 .0) (plain .ensures .0) (plain .ensures .1 .0) (front .ensures .1 .0) (front .ensures .1 .1),
+      omega (arith, plain .ensures .1 .1 .long),
     ))
     (λ c. search needs)
     (λ c. search needs)
     (λ c.
-    let front = c .before .before .before .before .before .before .before .before .before .write-front in
-    let start = c .before .before .before .before .before .before .before .before .before .before .before .before .before .before .before .before .before .before .before in
-    (front .ensures .0, written-on _ (start .args .out .now) (front .last .1 .1 .1 .0) _ (front .ensures .1 .0) (c .before .before .before .before .write-bodies .ensures))))
+    let plain = c .before .before .before .before .before .before .before .before .before .before .before .before .before .before .before .before .before .before .before .write-plain in
+    let front = c .before .before .before .before .before .before .before .before .before .before .before .before .write-front in
+    let start = c .before .before .before .before .before .before .before .before .before .before .before .before .before .before .before .before .before .before .before .before .before .before .before .before .before .before in (
+      front .ensures .0,
+      second-written (start .args .k) (start .args .n) (start .args .file .now) (start .pre .0) (start .args .out .now) (plain .last .1 .1 .1 .0) (front .last .1 .1 .1 .0) (plain .ensures .0) (plain .ensures .1 .0) (front .ensures .1 .0) (front .ensures .1 .1) _ (c .before .before .before .before .write-bodies .ensures),
+    )))

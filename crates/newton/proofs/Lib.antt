@@ -1,2 +1,0 @@
-pub mod Interpolating
-pub mod Finding

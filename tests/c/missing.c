@@ -1,8 +1,8 @@
-/* Decoding and reading, called from C, by the positions that are missing, on which their work turns: those that are not held, and those between
- * n and N. For each N up to 4096 there are code words of the lengths N, N - 1 and N/2 + 1, and messages of one symbol, of a quarter and of half of
- * N, of one more than these, and of n; k, k + 1 and all n symbols are held, in rising, falling and junk order. Due is what was sent, whose code
- * word is the second coder's, and where more than k are held and one is altered DISAGREE. Where it takes no delay the second coder decodes too.
- * Every lent cell holds junk before each call and is compared after it. */
+/* Decoding and reading, called from C, by the positions that are missing, on which their work turns: those that are not held, and those
+ * between n and N. For each N up to 4096 there are code words of the lengths N, N - 1 and N/2 + 1, and messages of one symbol, of a quarter and
+ * of half of N, of one more than these, and of n; k, k + 1 and all n symbols are held, in rising, falling and junk order. Due is what was sent,
+ * whose code word is the second coder's, and where more than k are held and one is altered DISAGREE. Where it takes no delay the second coder
+ * decodes too. Every lent cell holds junk before each call and is compared after it. */
 #include "lent.h"
 #include "second.h"
 #include "second_bundle.h"

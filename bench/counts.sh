@@ -48,12 +48,6 @@ find_block() { # CALL K N KIND
     fixed=$((fixed - few * each))
 }
 
-# The kit's emulator writes a line for each instruction: what has hundreds of millions is left out there.
-# TODO reader: goes with its callers, once reading has as few as decoding.
-too_slow() { # CALL N
-    [ "$(uname -m)" != x86_64 ] && [ "$2" -gt 256 ] && [ "$1" = read ]
-}
-
 transform_table() {
     local size butterflies exponent there back
     echo
@@ -82,19 +76,11 @@ row() { # WHAT INSTRUCTIONS TRANSFORM BYTES
 }
 
 block_row() { # WHAT CALL K N KIND TRANSFORM
-    if too_slow "$2" "$4"; then
-        printf '%-58s %13s\n' "$1" "left out here: too many for the emulator"
-        return
-    fi
     find_cost "$2" "$3" "$4" "$5" 1
     row "$1" "$cost" "$6" $((2 * $3))
 }
 
 bundle_rows() { # WHAT CALL K N KIND TRANSFORM
-    if too_slow "$2" "$4"; then
-        printf '%-58s %13s\n' "$1" "left out here: too many for the emulator"
-        return
-    fi
     find_block "$2" "$3" "$4" "$5"
     row "$1: each block" "$each" "$6" $((2 * $3))
     row "$1: beside the blocks" "$fixed" "$6" 0
@@ -124,10 +110,6 @@ growth_table() {
     echo "How the cost of a block grows, in transforms of N = n: k = n/2, k held without a pattern"
     printf '%6s %12s %12s %18s\n' n encode decode read,-each-block
     for n in 16 64 256 1024 4096; do
-        if too_slow read "$n"; then
-            printf '%6d %s\n' "$n" "left out here: too many for the emulator"
-            continue
-        fi
         k=$((n / 2))
         find_cost transform "$n" "$n" all 0
         transform=$cost

@@ -14,6 +14,27 @@ find_cost() { # CALL K N KIND BLOCKS
     cost=${costs[$key]}
 }
 
+# Sets `inside` to the instructions that a function executes in a call with all that it calls, or to 0 if the compiler has left no such function.
+find_inside() { # FUNCTION CALL K N KIND BLOCKS
+    inside=$(bench/instructions --in "$1" target/bench/calls "${@:2}" 1)
+}
+
+# Sets `cost` to the instructions of the transform that has its turns in a table. Decode makes it once where all N symbols are held. Where the
+# compiler has put it into its caller, its halving is counted there, and its arranging, which is the same function, in the transform by a running
+# product. 0 if they cannot be told apart.
+find_by_table() { # N
+    local halving whole
+    find_inside powers::inner::transform_by decode $(($1 / 2)) "$1" all 1
+    cost=$inside
+    [ "$cost" -eq 0 ] || return 0
+    find_inside powers::inner::halve_by decode $(($1 / 2)) "$1" all 1
+    halving=$inside
+    find_inside halving::inner::transform transform "$1" "$1" all 0
+    whole=$inside
+    find_inside halving::inner::halve transform "$1" "$1" all 0
+    [ "$halving" -eq 0 ] || [ "$whole" -eq 0 ] || [ "$inside" -eq 0 ] || cost=$((halving + whole - inside))
+}
+
 # Sets `each` to the instructions of one block more, and `fixed` to what a call takes beside its blocks.
 find_block() { # CALL K N KIND
     local few many
@@ -27,24 +48,24 @@ find_block() { # CALL K N KIND
     fixed=$((fixed - few * each))
 }
 
-# The kit's emulator writes a line for each instruction: what has hundreds of millions is left out there.
-too_slow() { # CALL N
-    [ "$(uname -m)" != x86_64 ] && [ "$2" -gt 256 ] && { [ "$1" = decode ] || [ "$1" = read ]; }
-}
-
 transform_table() {
-    local size butterflies exponent there
+    local size butterflies exponent there back
     echo
-    echo "The transform: instructions a call, and a butterfly, of which there are N/2 · log2 N"
-    printf '%6s %12s %12s %12s %12s\n' N transform a-butterfly inverse a-butterfly
+    echo "The transform: instructions a call, and a butterfly, of which there are N/2 · log2 N. Transform and inverse keep a running product of the"
+    echo "root; by a table is the transform inside decode and read, the work alone, with no checks and no clearing."
+    printf '%6s %12s %12s %12s %12s %12s %12s\n' N transform a-butterfly inverse a-butterfly by-a-table a-butterfly
     for exponent in 4 6 8 10 12; do
         size=$((1 << exponent))
         butterflies=$((size * exponent / 2))
         find_cost transform "$size" "$size" all 0
         there=$cost
         find_cost inverse "$size" "$size" all 0
-        awk -v n="$size" -v b="$butterflies" -v t="$there" -v i="$cost" \
-            'BEGIN { printf "%6d %12d %12.1f %12d %12.1f\n", n, t, t / b, i, i / b }'
+        back=$cost
+        cost=0
+        # the emulator does not tell functions apart
+        [ "$(uname -m)" != x86_64 ] || find_by_table "$size"
+        awk -v n="$size" -v b="$butterflies" -v t="$there" -v i="$back" -v h="$cost" \
+            'BEGIN { printf "%6d %12d %12.1f %12d %12.1f %12s %12s\n", n, t, t / b, i, i / b, h ? h : "-", h ? sprintf("%.1f", h / b) : "-" }'
     done
 }
 
@@ -55,19 +76,11 @@ row() { # WHAT INSTRUCTIONS TRANSFORM BYTES
 }
 
 block_row() { # WHAT CALL K N KIND TRANSFORM
-    if too_slow "$2" "$4"; then
-        printf '%-58s %13s\n' "$1" "left out here: too many for the emulator"
-        return
-    fi
     find_cost "$2" "$3" "$4" "$5" 1
     row "$1" "$cost" "$6" $((2 * $3))
 }
 
 bundle_rows() { # WHAT CALL K N KIND TRANSFORM
-    if too_slow "$2" "$4"; then
-        printf '%-58s %13s\n' "$1" "left out here: too many for the emulator"
-        return
-    fi
     find_block "$2" "$3" "$4" "$5"
     row "$1: each block" "$each" "$6" $((2 * $3))
     row "$1: beside the blocks" "$fixed" "$6" 0
@@ -97,10 +110,6 @@ growth_table() {
     echo "How the cost of a block grows, in transforms of N = n: k = n/2, k held without a pattern"
     printf '%6s %12s %12s %18s\n' n encode decode read,-each-block
     for n in 16 64 256 1024 4096; do
-        if too_slow decode "$n"; then
-            printf '%6d %s\n' "$n" "left out here: too many for the emulator"
-            continue
-        fi
         k=$((n / 2))
         find_cost transform "$n" "$n" all 0
         transform=$cost

@@ -13,8 +13,8 @@ ghost use Rattle.factors.specs.Halves.{TwoFactors, left, right};
 // Up to so many points one factor at a time takes fewer instructions than halves that are multiplied.
 const FEW: usize = 8;
 
-// At this length three transforms of twice as many numbers take about as many instructions as the square of it products.
-const LONG: usize = 256;
+// From this length on three transforms of twice as many numbers take fewer instructions than as many products as its square.
+const LONG: usize = 512;
 
 fn multiply(cells: &mut [u32])
     requires { ⌜ TwoFactors (now cells) ⌝ }

@@ -1,2 +1,2 @@
-// The powers of a root tabled out as a table, and the transform that reads its turns from such a table: for who transforms many lists of one size.
+// The table of the powers of a root, and the transform that reads its turns from such a table: for who transforms several lists of one size.
 pub mod inner;

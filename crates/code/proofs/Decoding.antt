@@ -59,7 +59,7 @@ module _ (k n : ℕ) (h : Held) (ready : Ready k n h) where
   lengths = points-length k n (h .positions) ∙ sym values-length
 
   -- a polynomial of k symbols with the first k values is the candidate's
-  pub only-candidate : (f : List ℕ) → length f ≡ k → Symbols f
+  only-candidate : (f : List ℕ) → length f ≡ k → Symbols f
       → ((j : ℕ) → j < k → value f (pointOf (sizeOf n) (getD (h .positions) j 0)) ≈ getD (h .values) j 0) → messageOf f ≡ candidate k n h
   unfolding candidate
   only-candidate f long small right =

@@ -25,9 +25,12 @@ point-lt : (N i : ℕ) → pointOf N i < 65537
 unfolding pointOf
 point-lt N i = power-lt _ i
 
-pub position-one : (n i j : ℕ) → n ≤ longest → i < n → j < n → pointOf (sizeOf n) i ≈ pointOf (sizeOf n) j → i ≡ j
-position-one n i j short li lj same =
-    points-distinct n i j (lt-of-lt-of-le li enough) (lt-of-lt-of-le lj enough) (reduced same (point-lt _ i) (point-lt _ j))
+-- of any two of the N positions
+pub point-one : (n i j : ℕ) → i < sizeOf n → j < sizeOf n → pointOf (sizeOf n) i ≈ pointOf (sizeOf n) j → i ≡ j
+point-one n i j li lj same = points-distinct n i j li lj (reduced same (point-lt _ i) (point-lt _ j))
+
+position-one : (n i j : ℕ) → n ≤ longest → i < n → j < n → pointOf (sizeOf n) i ≈ pointOf (sizeOf n) j → i ≡ j
+position-one n i j short li lj = point-one n i j (lt-of-lt-of-le li enough) (lt-of-lt-of-le lj enough)
   where
     enough : n ≤ sizeOf n
     enough = size-enough n (le-trans short longest-le)

@@ -4,25 +4,21 @@ use mathlib.Core.Path.{_≡_, refl, sym, ap, subst, _∙_}
 use mathlib.Core.Bool.{false}
 use mathlib.Core.List.{List}
 use Prim.Native.Nat.{ℕ, _+_, _-_, _*_, _/_, _^_, _<_, _≤_}
-use native.Mathlib.Nat.{mul-le-mul, div-eq-of-eq-mul-left, le-of-eq, le-trans, le-of-suc-le-suc}
+use native.Mathlib.Nat.{mul-le-mul, div-eq-of-eq-mul-left, le-of-eq, le-trans}
 use native.Mathlib.Omega.{arith}
 use lib.ListN.{length, getD, take, drop}
 use lib.Pow.{pow-add, pow-pos}
 use lib.Seq.{getD-take, getD-drop, length-take-le}
 use Rattle.field.specs.Field.{power}
-use Rattle.field.specs.Shape.{longest, badShape}
+use Rattle.field.specs.Shape.{badShape}
 use Rattle.field.specs.Size.{levelOf, sizeOf}
 use Rattle.field.specs.Symbol.{Symbols}
-use Rattle.field.proofs.Ring.{power-lt}
-use Rattle.field.proofs.Shape.{shape-good, longest-le}
-use Rattle.field.proofs.Size.{size-power, size-small, size-enough, size-least, size-of-power, level-le, level-least}
+use Rattle.field.proofs.Ring.{power-lt, symbols-product}
+use Rattle.field.proofs.Shape.{size-le}
+use Rattle.field.proofs.Size.{size-power, size-small, size-size, level-least}
 use Rattle.poly.proofs.Tab.{tab-at}
 use Rattle.coset.specs.Between.{psi}
 use Rattle.coset.specs.Room.{Table, Room}
-
--- two symbols multiply to no more than 2^32
-product-le : (a b : ℕ) → a < 65537 → b < 65537 → a * b ≤ 4294967296
-product-le a b la lb = mul-le-mul {n₂ = 65536} {m₂ = 65536} (le-of-suc-le-suc la) (le-of-suc-le-suc lb)
 
 module _ (N : ℕ) (cells : List ℕ) (table : Table N cells) where
   pub size-N : N ≡ 2 ^ levelOf N
@@ -68,7 +64,7 @@ module _ (N K : ℕ) (cells : List ℕ) (room : Room N K cells) where
       rw (getD-take N cells j 0 l) at (room .symbols j (omega (arith, length-take-le N cells (omega (arith, room .table .long)))))
 
   pub term-le : (j : ℕ) → j < N → getD cells j 0 * getD cells (3 * N + j) 0 ≤ 4294967296
-  term-le j l = product-le _ _ (coefficient-lt j l) (rw (power-at N cells (room .table) j l) (power-lt (psi N) j))
+  term-le j l = symbols-product _ _ (coefficient-lt j l) (rw (power-at N cells (room .table) j l) (power-lt (psi N) j))
 
   -- it is still that where the coefficients and the powers stay
   pub room-kept : (e : List ℕ) → length e ≡ length cells → take N e ≡ take N cells → drop (3 * N) e ≡ drop (3 * N) cells → Room N K e
@@ -86,10 +82,7 @@ pub room-of : (k n : ℕ) (cells : List ℕ) → badShape k n ≡ false → Tabl
 room-of k n cells shape table small =
     record {
       table = table;
-      K-power = size-power k ∙ sym (ap sizeOf (size-power k) ∙ size-of-power (levelOf k) (level-le k));
-      K-fits = le-trans (size-least k (levelOf n) (le-trans (good .1) (le-trans (size-enough n (le-trans (good .2) longest-le)) (le-of-eq (size-power n))))) (le-of-eq (sym (size-power n)));
+      K-power = size-size k;
+      K-fits = size-le k n shape;
       symbols = small;
     }
-  where
-    good : (0 < k) × (k ≤ n) × (n ≤ longest)
-    good = shape-good k n shape

@@ -1,7 +1,7 @@
 -- What the sums at the inverse root of the values h tell: they are N times the coefficients of the polynomial that has the values h, so some f
 -- of k symbols times the product has these values exactly if they are 0 from index k + u on, u being how many points are missing.
 -- Assumes nothing.
-use mathlib.Core.Path.{_≡_, refl, sym, ap, subst, _∙_}
+use mathlib.Core.Path.{_≡_, refl, sym, ap, _∙_}
 use mathlib.Core.List.{List, _++_}
 use Prim.Native.Nat.{ℕ, _+_, _-_, _*_, _^_, _%_, _<_, _≤_}
 use native.Mathlib.Nat.{le-of-suc-le-suc}
@@ -33,7 +33,7 @@ use Rattle.poly.proofs.Tab.{tab-length, tab-at}
 use Rattle.poly.proofs.Value.{value-≈, value-append, value-zeros, value-front}
 use Rattle.halving.specs.Transform.{sums}
 use Rattle.halving.proofs.Round.{Opposite, round}
-use Rattle.halving.proofs.Sums.{values, values-length, sums-values}
+use Rattle.halving.proofs.Sums.{values, sums-values, sums-length, sums-symbols}
 use Rattle.halving.proofs.Undo.{opposite, flipped, scaled-value}
 use Rattle.divide.specs.Dividing.{Divides, Missing}
 use Rattle.divide.proofs.Quotients.{Quotient, divided-by}
@@ -58,12 +58,12 @@ module _ (e k : ℕ) (few-e : e < 16) (zs h : List ℕ) (size : length h ≡ 2 ^
   grown-values = sums-values (inverse (rootOf (length h))) h
 
   pub grown-length : length grown ≡ length h
-  unfolding N
-  grown-length = ap length grown-values ∙ values-length (inverse r) N h
+  unfolding grown
+  grown-length = sums-length (inverse (rootOf (length h))) h
 
   pub grown-symbols : Symbols grown
-  grown-symbols =
-      subst Symbols (sym grown-values) (unfold values in tab-symbols N (λ j. value h (inverse r ^ j) % 65537) (λ j l. omega arith))
+  unfolding grown
+  grown-symbols = sums-symbols (inverse (rootOf (length h))) h
 
   point-≈ : (j : ℕ) → pointOf N j ≈ r ^ j
   unfolding pointOf r

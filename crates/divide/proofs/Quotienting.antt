@@ -17,6 +17,7 @@ use Rattle.poly.proofs.Symbols.{tab-symbols}
 use Rattle.poly.proofs.Tab.{tab-length, tab-ext}
 use Rattle.halving.specs.Ready.{Ready}
 use Rattle.halving.specs.Transform.{sums}
+use Rattle.halving.proofs.Sums.{sums-length, sums-symbols}
 use Rattle.powers.specs.Part.{part, replaced}
 use Rattle.powers.specs.Turns.{Tabled}
 use Rattle.powers.proofs.Part.{replaced-length, replaced-part, replaced-at, replaced-past, replaced-behind, replaced-twice}
@@ -25,14 +26,6 @@ use Rattle.coset.specs.Room.{Table, Room}
 use Rattle.coset.proofs.Room.{K-some, table-kept}
 use Rattle.coset.proofs.Turning.{tabled}
 use Rattle.divide.specs.Dividing.{quotients, untwisted}
-
-pub sums-length : (r : ℕ) (a : List ℕ) → length (sums r a) ≡ length a
-unfolding sums
-sums-length r a = tab-length (length a) _
-
-pub sums-symbols : (r : ℕ) (a : List ℕ) → Symbols (sums r a)
-unfolding sums
-sums-symbols r a = tab-symbols (length a) _ (λ j l. omega arith)
 
 module _ (k N K : ℕ) (d : List ℕ) (room : Room N K d) (few : k ≤ K) where
   inside : N + K ≤ length d

@@ -21,6 +21,7 @@ use Rattle.poly.specs.Tab.{tab}
 use Rattle.poly.specs.Value.{value}
 use Rattle.poly.proofs.Tab.{tab-length, tab-ext, tab-getD}
 use Rattle.halving.specs.Transform.{sums}
+use Rattle.halving.proofs.Sums.{sums-length, sums-symbols}
 use Rattle.powers.specs.Part.{part, replaced}
 use Rattle.powers.specs.Turns.{Tabled}
 use Rattle.powers.proofs.Part.{replaced-length, replaced-part, replaced-behind}
@@ -29,7 +30,6 @@ use Rattle.coset.proofs.Room.{size-N, size-K, levels, table-kept}
 use Rattle.coset.proofs.Turning.{whole-tabled}
 use Rattle.divide.specs.Dividing.{Divides, Missing, Inverses, quotients, untwisted, ZeroFrom, Told, Solved}
 use Rattle.divide.proofs.Dividing.{Found, grown, unit, entry-of, zero-from, found}
-use Rattle.divide.proofs.Quotienting.{sums-length, sums-symbols}
 use Rattle.divide.proofs.Untwisting.{untwisted-is}
 
 -- what `solve` promises, over N and K

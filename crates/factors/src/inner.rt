@@ -3,12 +3,10 @@
 use crate::moving::repeat;
 use crate::singly::multiply_few;
 ghost use mathlib.Core.Path.{_≡_};
-ghost use Prim.Native.Nat.{_/_, _≤_};
+ghost use Prim.Native.Nat.{_/_};
 ghost use lib.ListN.{length, take};
-ghost use Rattle.field.specs.Size.{sizeOf};
-ghost use Rattle.field.specs.Symbol.{Symbols};
 ghost use Rattle.factors.specs.Factors.{lowersOf, monicTimes};
-ghost use Rattle.factors.specs.Halves.{TwoFactors, left, right};
+ghost use Rattle.factors.specs.Halves.{HalfReady, TwoFactors, left, right};
 
 // Up to so many points one factor at a time takes fewer instructions than halves that are multiplied.
 const FEW: usize = 8;
@@ -29,7 +27,7 @@ fn multiply(cells: &mut [u32])
 
 // The product over S points that stand at the front of 2S cells, in their place: its S coefficients below the highest. The other S cells are room.
 pub fn multiply_out(cells: &mut [u32])
-    requires { ⌜ (length (now cells) ≡ sizeOf (length (now cells))) × (2 ≤ length (now cells)) × Symbols (take (length (now cells) / 2) (now cells)) ⌝ }
+    requires { ⌜ HalfReady (now cells) ⌝ }
     ensures { λ _. ⌜ take (length (now (cells .entry)) / 2) (now (cells .exit)) ≡ lowersOf (take (length (now (cells .entry)) / 2) (now (cells .entry))) ⌝ }
 {
     if cells.len() / 2 <= FEW {

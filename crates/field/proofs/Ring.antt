@@ -1,8 +1,8 @@
 -- The field is a commutative ring, and powers multiply as powers do. Products go by congruence, sums and differences by omega.
 -- Assumes nothing.
 use mathlib.Core.Path.{_≡_, ap}
-use Prim.Native.Nat.{ℕ, suc, _+_, _*_, _^_, _%_, _<_}
-use native.Mathlib.Nat.{pow-suc, pow-zero}
+use Prim.Native.Nat.{ℕ, suc, _+_, _*_, _^_, _%_, _<_, _≤_}
+use native.Mathlib.Nat.{pow-suc, pow-zero, mul-le-mul, le-of-suc-le-suc}
 use native.Mathlib.Omega.{arith}
 use lib.Pow.{pow-add}
 use Rattle.field.specs.Congruence.{_≈_}
@@ -31,10 +31,6 @@ power-lt x n = omega arith
 pub inverse-lt : (x : ℕ) → inverse x < 65537
 unfolding inverse
 inverse-lt x = power-lt x 65535
-
-pub sum-≈ : (a b : ℕ) → sum a b ≈ a + b
-unfolding sum
-sum-≈ a b = mod-≈ (a + b)
 
 pub difference-≈ : (a b : ℕ) → difference a b ≈ a + 65536 * b
 unfolding difference
@@ -112,3 +108,7 @@ pub power-product : (x y n : ℕ) → power (product x y) n ≡ product (power x
 unfolding power product
 power-product x y n =
     (pow-≈ (mod-≈ (x * y)) n ∘≈ ≈-of (mul-pow x y n) ∘≈ mul-≈ (≈-sym (mod-≈ (x ^ n))) (≈-sym (mod-≈ (y ^ n)))) .mods
+
+-- the plain product of two symbols is no more than 2^32
+pub symbols-product : (a b : ℕ) → a < 65537 → b < 65537 → a * b ≤ 4294967296
+symbols-product a b la lb = mul-le-mul {n₂ = 65536} {m₂ = 65536} (le-of-suc-le-suc la) (le-of-suc-le-suc lb)

@@ -60,3 +60,7 @@ size-of-power e h = size-power (2 ^ e) ∙ ap (2 ^_) (level-power e h)
 pub size-small : (S n : ℕ) → S ≡ sizeOf n → S ≤ 65536
 unfolding sizeOf
 size-small S n is = le-trans (le-of-eq is) (pow-mono (level-le n))
+
+-- N is its own N
+pub size-size : (n : ℕ) → sizeOf n ≡ sizeOf (sizeOf n)
+size-size n = size-power n ∙ sym (ap sizeOf (size-power n) ∙ size-of-power (levelOf n) (level-le n))

@@ -3,15 +3,15 @@
 use mathlib.Core.Path.{_≡_, subst, sym, ap, _∙_}
 use mathlib.Core.List.{List, []}
 use Prim.Native.Nat.{ℕ, _+_, _*_, _-_, _<_, _≤_}
-use native.Mathlib.Nat.{le-trans, le-of-eq}
+use native.Mathlib.Nat.{le-trans}
 use native.Mathlib.Omega.{arith}
 use lib.ListN.{length, getD, drop}
 use lib.Seq.{getD-drop}
 use Rattle.field.specs.Congruence.{_≈_}
 use Rattle.field.specs.Refusals.{result}
-use Rattle.field.specs.Size.{levelOf, sizeOf}
-use Rattle.field.proofs.Shape.{shape-good, longest-le}
-use Rattle.field.proofs.Size.{size-power, size-enough, size-least}
+use Rattle.field.specs.Size.{sizeOf}
+use Rattle.field.proofs.Shape.{longest-le, size-le}
+use Rattle.field.proofs.Size.{size-enough}
 use Rattle.poly.specs.Products.{vanishing}
 use Rattle.poly.specs.Value.{value}
 use Rattle.coset.specs.Between.{between}
@@ -36,10 +36,7 @@ module _ (s : List ℕ) (good : layoutChecks s ≡ result []) where
 
   -- K is no more than N
   pub size-order : sizeOf (kIn s) ≤ sizeOf (nIn s)
-  size-order =
-      le-trans
-      (size-least (kIn s) (levelOf (nIn s)) (le-trans (shape-good (kIn s) (nIn s) (shape-passed s good) .1) (le-trans n-in-size (le-of-eq (size-power (nIn s))))))
-      (le-of-eq (sym (size-power (nIn s))))
+  size-order = size-le (kIn s) (nIn s) (shape-passed s good)
 
   module _ (cells now : List ℕ) (same : length now ≡ length cells) where
     -- all but the first two parts and the cursors
@@ -66,3 +63,7 @@ module _ (s : List ℕ) (good : layoutChecks s ≡ result []) where
           fixed = fixed-kept (λ i le l. same-later (2 * sizeOf (nIn s)) i now cells behind le) (λ i le. same-later (2 * sizeOf (nIn s)) i now cells behind (omega (arith, le))) (laid .fixed);
           cursors = λ t h. same-later (2 * sizeOf (nIn s)) (6 * sizeOf (nIn s) + t) now cells behind (omega arith) ∙ laid .cursors t h;
         }
+
+-- how many are held, as the code has read it
+pub below : (t held m : ℕ) → t < held → held ≡ m → t < m
+below t held m h is = omega arith

@@ -19,6 +19,7 @@ use Rattle.poly.specs.Tab.{tab}
 use Rattle.poly.specs.Value.{value}
 use Rattle.poly.proofs.Parts.{parts-length, parts-at}
 use Rattle.poly.proofs.Sum.{total-ext}
+use Rattle.poly.proofs.Symbols.{tab-symbols}
 use Rattle.poly.proofs.Tab.{tab-length, tab-at, tab-ext, tab-append}
 use Rattle.poly.proofs.Value.{plain-sum, split, value-≈}
 use Rattle.halving.specs.Halving.{turned, joined, halving}
@@ -36,6 +37,15 @@ sum-value r a j =
 pub sums-values : (r : ℕ) (a : List ℕ) → sums r a ≡ values r (length a) a
 unfolding sums values
 sums-values r a = tab-ext (length a) _ _ (λ j h. ap (_% 65537) (sum-value r a j))
+
+-- they are as many symbols
+pub sums-length : (r : ℕ) (a : List ℕ) → length (sums r a) ≡ length a
+unfolding sums
+sums-length r a = tab-length (length a) _
+
+pub sums-symbols : (r : ℕ) (a : List ℕ) → Symbols (sums r a)
+unfolding sums
+sums-symbols r a = tab-symbols (length a) _ (λ j l. omega arith)
 
 -- half way round stands minus one; at size 1 there is no half way
 abbrev pub Halfway : ℕ → ℕ → Type 0

@@ -34,7 +34,7 @@ fn next_place(place: usize, size: usize) -> usize
     left
 }
 
-// Each pair of places changes once, when the lower of them is met.
+// Where a loop meets both places of a pair, they change once: when the lower one is met.
 pub fn exchange(list: &mut [u32], i: usize, j: usize)
     requires { ⌜ (i < length (now list)) × (j < length (now list)) ⌝ }
     ensures { λ _. ⌜ now (list .exit) ≡ exchanged (now (list .entry)) i j ⌝ }

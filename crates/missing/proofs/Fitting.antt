@@ -33,10 +33,10 @@ use Rattle.code.specs.Meeting.{polynomialOf, messageOf}
 use Rattle.code.specs.Ready.{Ready}
 use Rattle.code.proofs.Decoding.{symbol-≈, decodes-fitting, decodes-none}
 use Rattle.code.proofs.Meeting.{polynomial-message, message-of, polynomial-long, polynomial-symbols}
-use Rattle.code.proofs.Points.{points-length, points-apart}
+use Rattle.code.proofs.Points.{point-one, points-length, points-apart}
 use Rattle.divide.specs.Dividing.{Divides, Missing, Solved}
 use Rattle.missing.specs.Missing.{Marks, missing, weights, Weighted}
-use Rattle.missing.proofs.Unmarked.{distinct-append, few-roots, point-full, point-one, Unmarked, unmarked-every, unmarked-distinct, unmarked-zero, unmarked-apart}
+use Rattle.missing.proofs.Unmarked.{distinct-append, few-roots, point-full, Unmarked, unmarked-every, unmarked-distinct, unmarked-zero, unmarked-apart}
 
 module _ (k n : ℕ) (h : Held) (ready : Ready k n h) (marks : List ℕ) (m : Marks (sizeOf n) (h .positions) marks) where
   zs : List ℕ

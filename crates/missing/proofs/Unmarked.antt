@@ -14,12 +14,12 @@ use lib.ListN.{length, getD, replicate, length-append, length-replicate}
 use Rattle.field.specs.Congruence.{_≈_}
 use Rattle.field.specs.Field.{power}
 use Rattle.field.specs.Points.{rootOf, pointOf}
-use Rattle.field.specs.Roots.{root, HasOrder}
+use Rattle.field.specs.Roots.{root}
 use Rattle.field.specs.Size.{levelOf, sizeOf}
 use Rattle.field.proofs.Congruence.{≈-of, ≈-sym, _∘≈_, _+≈_, _·≈_, pow-≈, comb}
 use Rattle.field.proofs.Powers.{full-power}
 use Rattle.field.proofs.Ring.{power-≈}
-use Rattle.field.proofs.Roots.{root-full, root-order, powers-distinct}
+use Rattle.field.proofs.Roots.{root-full}
 use Rattle.field.proofs.Size.{level-le, level-size, size-power}
 use Rattle.poly.specs.Distinct.{Distinct}
 use Rattle.poly.specs.Every.{Every}
@@ -29,6 +29,7 @@ use Rattle.poly.proofs.Counting.{vanishing-is-zero}
 use Rattle.poly.proofs.Every.{every-map, every-append}
 use Rattle.poly.proofs.Products.{times-value, vanishing-apart}
 use Rattle.poly.proofs.Value.{value-append, value-zeros}
+use Rattle.code.proofs.Points.{point-one}
 use Rattle.missing.specs.Missing.{unmarked}
 
 pub distinct-append : (xs ys : List ℕ) → Distinct xs → Distinct ys → Every (λ x. Every (λ y. ¬ (y ≈ x)) ys) xs → Distinct (xs ++ ys)
@@ -80,15 +81,6 @@ module _ (n : ℕ) where
       full : root (levelOf (sizeOf n)) ^ sizeOf n ≈ 1
       full = rw (level-size n, size-power n) (root-full (levelOf n) (suc-le-suc (level-le n)))
 
-  pub point-one : (i j : ℕ) → i < (sizeOf n) → j < (sizeOf n) → pointOf (sizeOf n) i ≈ pointOf (sizeOf n) j → i ≡ j
-  unfolding pointOf rootOf
-  point-one i j li lj same =
-      powers-distinct (root (levelOf (sizeOf n))) (sizeOf n) order i j li lj
-      (≈-sym (power-≈ (root (levelOf (sizeOf n))) i) ∘≈ same ∘≈ power-≈ (root (levelOf (sizeOf n))) j)
-    where
-      order : HasOrder (root (levelOf (sizeOf n))) (sizeOf n)
-      order = rw (level-size n, size-power n) (root-order (levelOf n) (suc-le-suc (level-le n)))
-
   module _ (marks : List ℕ) where
     later : (b z : ℕ) → Unmarked (sizeOf n) marks b z → Unmarked (sizeOf n) marks (suc b) z
     later b z (j, l, is, none) = (j, omega arith, is, none)
@@ -110,7 +102,7 @@ module _ (n : ℕ) where
         at (eqb (getD marks b 0) 0) (every-map (λ z u same. earlier z u same) (unmarked (sizeOf n) marks b) (unmarked-every b)) (unmarked-distinct b (omega arith))
       where
         earlier : (z : ℕ) → Unmarked (sizeOf n) marks b z → ¬ (z ≈ pointOf (sizeOf n) b)
-        earlier z (j, less, is, none) same = absurd (omega (arith, point-one j b (omega arith) (omega arith) (≈-of (sym is) ∘≈ same)))
+        earlier z (j, less, is, none) same = absurd (omega (arith, point-one n j b (omega arith) (omega arith) (≈-of (sym is) ∘≈ same)))
 
         at : (t : Bool) → Every (λ z. ¬ (z ≈ pointOf (sizeOf n) b)) (unmarked (sizeOf n) marks b) → Distinct (unmarked (sizeOf n) marks b)
             → Distinct (cond t (pointOf (sizeOf n) b ∷ unmarked (sizeOf n) marks b) (unmarked (sizeOf n) marks b))
@@ -147,4 +139,4 @@ module _ (n : ℕ) where
       where
         other : (z : ℕ) → Unmarked (sizeOf n) marks (sizeOf n) z → ¬ (z ≈ pointOf (sizeOf n) j)
         other z (i, less, is, none) same =
-            marked (ap (λ (x : ℕ). getD marks x 0) (sym (point-one i j less l (≈-of (sym is) ∘≈ same))) ∙ none)
+            marked (ap (λ (x : ℕ). getD marks x 0) (sym (point-one n i j less l (≈-of (sym is) ∘≈ same))) ∙ none)

@@ -40,7 +40,7 @@ raised-at x y [] i l = absurd (not-suc-le-zero l)
 raised-at x y (a ∷ h) zero l = refl
 raised-at x y (a ∷ h) (suc i) l = raised-at x a h i (le-of-suc-le-suc l)
 
-pub raised-end : (x y : ℕ) (h : List ℕ) → getD (raised x y h) (length h) 0 ≡ getD (y ∷ h) (length h) 0 % 65537
+raised-end : (x y : ℕ) (h : List ℕ) → getD (raised x y h) (length h) 0 ≡ getD (y ∷ h) (length h) 0 % 65537
 unfolding raised
 raised-end x y [] = refl
 raised-end x y (a ∷ h) = raised-end x a h

@@ -25,7 +25,7 @@ unfolding total
 total-scale zero f c = omega arith
 total-scale (suc n) f c = omega (arith, total-scale n (λ i. f (suc i)) c)
 
-pub total-add : (n : ℕ) (f g : ℕ → ℕ) → total n (λ i. f i + g i) ≡ total n f + total n g
+total-add : (n : ℕ) (f g : ℕ → ℕ) → total n (λ i. f i + g i) ≡ total n f + total n g
 unfolding total
 total-add zero f g = refl
 total-add (suc n) f g = omega (arith, total-add n (λ i. f (suc i)) (λ i. g (suc i)))

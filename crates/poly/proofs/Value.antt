@@ -5,8 +5,8 @@ use mathlib.Core.List.{List, [], _∷_, _++_}
 use Prim.Native.Nat.{ℕ, zero, suc, _+_, _*_, _^_, _%_, _<_, _≤_, suc-le-suc}
 use native.Mathlib.Nat.{pow-suc, pow-zero, zero-mul, zero-lt-suc, le-of-suc-le-suc, not-suc-le-zero}
 use native.Mathlib.Omega.{arith}
-use lib.ListN.{length, getD, take, drop, replicate, length-drop}
-use lib.Seq.{drop-cons, length-take-le, getD-take, getD-drop}
+use lib.ListN.{length, getD, take, drop, replicate}
+use lib.Seq.{drop-cons}
 use Rattle.field.specs.Congruence.{_≈_}
 use Rattle.field.proofs.Congruence.{≈-refl, ≈-of, _∘≈_, _+≈_, _·≈_, mul-≈, mod-≈}
 use Rattle.poly.specs.Parts.{evens, odds}
@@ -14,7 +14,7 @@ use Rattle.poly.specs.Sum.{total}
 use Rattle.poly.specs.Tab.{tab}
 use Rattle.poly.specs.Value.{value}
 use Rattle.poly.proofs.Sum.{total-ext, total-scale, total-zero}
-use Rattle.poly.proofs.Tab.{tab-length, tab-at, with-last}
+use Rattle.poly.proofs.Tab.{tab-length, tab-at}
 
 pub plain-sum : (s : List ℕ) (x : ℕ) → value s x ≡ total (length s) (λ i. getD s i 0 * x ^ i)
 unfolding value total
@@ -61,21 +61,6 @@ value-tab n f x =
     plain-sum (tab n f) x
     ∙ ap (λ (m : ℕ). total m (λ i. getD (tab n f) i 0 * x ^ i)) (tab-length n f)
     ∙ total-ext n _ _ (λ i h. ap (_* x ^ i) (tab-at n f i h))
-
--- the value of a part of a list
-pub value-part : (at n : ℕ) (s : List ℕ) (x : ℕ) → at + n ≤ length s → value (take n (drop at s)) x ≡ total n (λ i. getD s (at + i) 0 * x ^ i)
-value-part at n s x h =
-    plain-sum (take n (drop at s)) x
-    ∙ ap (λ (m : ℕ). total m (λ i. getD (take n (drop at s)) i 0 * x ^ i)) (length-take-le n (drop at s) (omega (arith, length-drop at s)))
-    ∙ total-ext n _ _ (λ i l. ap (_* x ^ i) (getD-take n (drop at s) i 0 l ∙ getD-drop at s i 0))
-
--- a last coefficient 0 may be left out
-pub value-last : (n : ℕ) (s : List ℕ) (x : ℕ) → length s ≡ suc n → getD s n 0 ≡ 0 → value s x ≡ value (take n s) x
-unfolding value
-value-last n s x size none =
-    ap (λ (l : List ℕ). value l x) (with-last s n size)
-    ∙ value-append (take n s) (getD s n 0 ∷ []) x
-    ∙ rw none (omega arith)
 
 -- the plain sum over more indices than there are coefficients
 pub longer-sum : (n : ℕ) (s : List ℕ) (x : ℕ) → length s ≤ n → value s x ≡ total n (λ i. getD s i 0 * x ^ i)

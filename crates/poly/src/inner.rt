@@ -1,4 +1,5 @@
-// No entry points: what the crates above run of this one. The function here takes any numbers.
+// No entry points: the plain evaluation of a polynomial at one number, which takes any numbers. Decoding goes by transforms and does not run it;
+// it is here for whoever holds a single point.
 ghost use mathlib.Core.Path.{_≡_};
 ghost use Prim.Native.Nat.{_%_, _<_};
 ghost use Rattle.field.specs.Symbol.{IsSymbol};

@@ -4,7 +4,6 @@ use mathlib.Core.Path.{_≡_, refl, sym, ap, subst, _∙_}
 use mathlib.Core.Bool.{false}
 use mathlib.Core.List.{List, [], _∷_, _++_, append-assoc}
 use Prim.Native.Nat.{ℕ, _+_, _-_, _*_, _%_, _^_, _<_, _≤_}
-use native.Mathlib.Nat.{le-of-eq, le-trans}
 use native.Mathlib.Omega.{arith}
 use lib.ListN.{length, getD, take, drop, replicate, length-append, length-drop, length-replicate, take-append-drop}
 use lib.Pow.{pow-pos, pow-mono}
@@ -18,8 +17,8 @@ use Rattle.field.specs.Symbol.{Symbols}
 use Rattle.field.proofs.Congruence.{≈-refl, ≈-of, ≈-sym, _∘≈_, mul-≈, mod-≈}
 use Rattle.field.proofs.Fermat.{inverse-≈, no-divisors}
 use Rattle.field.proofs.Ring.{product-≈, power-≈, power-lt}
-use Rattle.field.proofs.Shape.{shape-good, longest-le, longest-twice}
-use Rattle.field.proofs.Size.{size-power, size-least, size-enough, size-of-power, level-le, level-least, level-size}
+use Rattle.field.proofs.Shape.{shape-good, size-le, level-twice}
+use Rattle.field.proofs.Size.{size-size}
 use Rattle.poly.specs.Every.{Every}
 use Rattle.poly.specs.Products.{times, vanishing}
 use Rattle.poly.specs.Tab.{tab}
@@ -106,25 +105,16 @@ module _ (k n : ℕ) (d : List ℕ) (shape : badShape k n ≡ false) (long : len
       record { counted = all .0; table = all .1; weighs = all .2; inverses = all .3 }
 
   pub power-of-two : N ≡ sizeOf N
-  power-of-two = N-is ∙ size-power n ∙ sym (ap sizeOf (N-is ∙ size-power n) ∙ size-of-power (levelOf n) (level-le n))
+  power-of-two = N-is ∙ size-size n ∙ ap sizeOf (sym N-is)
 
   pub root-there : levelOf N < 16
-  root-there =
-      omega (arith, ap levelOf N-is ∙ level-size n, level-least n 15 (le-trans (shape-good k n shape .2) longest-twice))
+  root-there = rw N-is (level-twice n (shape-good k n shape .2))
 
   K-power-of-two : K ≡ sizeOf K
-  K-power-of-two = K-is ∙ size-power k ∙ sym (ap sizeOf (K-is ∙ size-power k) ∙ size-of-power (levelOf k) (level-le k))
+  K-power-of-two = K-is ∙ size-size k ∙ ap sizeOf (sym K-is)
 
   K-fits : K ≤ N
-  K-fits =
-      omega (
-        arith,
-        K-is,
-        N-is,
-        size-power n,
-        size-least k (levelOf n)
-            (le-trans (shape-good k n shape .1) (le-trans (size-enough n (le-trans (shape-good k n shape .2) longest-le)) (le-of-eq (size-power n)))),
-      )
+  K-fits = omega (arith, K-is, N-is, size-le k n shape)
 
   pub long-N : length d ≡ 4 * N
   long-N = long ∙ ap (4 *_) (sym N-is)

@@ -6,7 +6,6 @@ use mathlib.Core.List.{List, [], _++_}
 use mathlib.Core.Option.{some, none}
 use Prim.Native.Nat.{ℕ, suc, _+_, _*_, _-_, _<_, _≤_}
 use native.Mathlib.Decide.{ℕ-discrete}
-use native.Mathlib.Nat.{le-trans}
 use native.Mathlib.Omega.{arith}
 use lib.ListN.{length, getD, take, drop, length-append, length-drop, take-append-drop}
 use lib.Seq.{length-take-le, getD-take, getD-drop, take-append-le, drop-append-le, ext-getD}
@@ -14,11 +13,11 @@ use Rattle.field.specs.Congruence.{_≈_}
 use Rattle.field.specs.Field.{power}
 use Rattle.field.specs.Refusals.{result}
 use Rattle.field.specs.Shape.{badShape}
-use Rattle.field.specs.Size.{levelOf, sizeOf}
+use Rattle.field.specs.Size.{sizeOf}
 use Rattle.field.specs.Symbol.{Symbols}
 use Rattle.field.proofs.Ring.{product-lt}
-use Rattle.field.proofs.Shape.{shape-good, longest-twice}
-use Rattle.field.proofs.Size.{level-le, level-least, level-size, size-power, size-of-power}
+use Rattle.field.proofs.Shape.{shape-good, level-twice}
+use Rattle.field.proofs.Size.{size-size}
 use Rattle.poly.specs.Products.{vanishing}
 use Rattle.poly.specs.Tab.{tab}
 use Rattle.poly.specs.Value.{value}
@@ -28,6 +27,7 @@ use Rattle.code.proofs.Decoding.{decodes-fitting}
 use Rattle.code.proofs.Meeting.{message-is}
 use Rattle.coset.specs.Between.{psi, between}
 use Rattle.coset.specs.Room.{Room}
+use Rattle.coset.proofs.Room.{room-of}
 use Rattle.divide.specs.Dividing.{Missing, Inverses, Solved}
 use Rattle.missing.specs.Missing.{Weighted}
 use Rattle.missing.proofs.Fitting.{counted, missing-in, decodes}
@@ -49,10 +49,6 @@ front-kept m e cells part le inside same kept =
     ∙ ap (_++ drop e cells) kept
     ∙ sym (drop-append-le m (take e cells) (drop e cells) (omega (arith, length-take-le e cells inside)))
     ∙ ap (drop m) (take-append-drop e cells)
-
--- N is its own N
-size-size : (n : ℕ) → sizeOf n ≡ sizeOf (sizeOf n)
-size-size n = size-power n ∙ sym (size-of-power (levelOf n) (level-le n)) ∙ ap sizeOf (sym (size-power n))
 
 module _ (s : List ℕ) (b : ℕ) (cells : List ℕ) (bytes : Bytes s) (good : layoutChecks s ≡ result []) (enough : kIn s ≤ heldIn s)
     (laid : Laid s (suc b) cells) (gathered : Gathered s b (heldIn s) cells) where
@@ -99,16 +95,15 @@ module _ (s : List ℕ) (b : ℕ) (cells : List ℕ) (bytes : Bytes s) (good : l
   room-ready : Room (sizeOf (nIn s)) (sizeOf (kIn s)) part
   unfolding list
   room-ready =
-      record {
-        table = record { long = part-long; N-power = size-size (nIn s); N-root = root; powers = ext-getD 0 _ _ powers-long powers };
-        K-power = size-size (kIn s);
-        K-fits = size-order s good;
-        symbols = list-symbols;
-      }
+      room-of (kIn s) (nIn s) part (shape-passed s good)
+      (record {
+        long = part-long;
+        N-power = size-size (nIn s);
+        N-root = level-twice (nIn s) (n-limited s good);
+        powers = ext-getD 0 _ _ powers-long powers;
+      })
+      list-symbols
     where
-      root : levelOf (sizeOf (nIn s)) < 16
-      root = omega (arith, level-size (nIn s), level-least (nIn s) 15 (le-trans (n-limited s good) longest-twice))
-
       powers-long : length (drop (3 * sizeOf (nIn s)) part) ≡ length (tab (sizeOf (nIn s)) (power (psi (sizeOf (nIn s)))))
       powers-long = omega (arith, length-drop (3 * sizeOf (nIn s)) part, part-long, tab-length (sizeOf (nIn s)) (power (psi (sizeOf (nIn s)))))
 

@@ -1,5 +1,5 @@
 // The overflow counts, of which the table needs those of the whole file: of 2N cells the first N hold a block's code word, the next N the counts.
-// No entry points: the callers have made the checks, and the crate above reaches what it needs in `inner`.
+// No entry points: the callers have made the checks, and the crates above reach what they need in `inner`.
 use crate::words::code_block;
 use cells::inner::clear;
 use field::inner::size;

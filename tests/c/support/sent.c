@@ -84,7 +84,7 @@ void choose_lone_overflow(size_t k, size_t n, size_t blocks, size_t block, size_
 {
     begin_file(k, n, 2 * k * blocks);
     do { /* junk has one of its own now and then */
-        choose_words(4);
+        choose_words(4); /* junk, which is every kind above 3 */
         second_overflow(k, n, sent.file, sent.length, block, position);
         second_symbols(k, n, sent.file, sent.length, sent.symbols);
     } while (count_overflows() != 1 || sent.symbols[block * n + position] != 65536);

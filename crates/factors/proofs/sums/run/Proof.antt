@@ -3,12 +3,12 @@
 -- Assumes nothing.
 use mathlib.Core.Path.{_≡_, ap, _∙_}
 use mathlib.Core.List.{List}
-use Prim.Native.Nat.{ℕ, suc, _+_, _-_, _*_, _/_, _<_, _≤_}
-use native.Mathlib.Nat.{mul-le-mul}
+use Prim.Native.Nat.{ℕ, suc, _+_, _-_, _*_, _/_, _<_, _≤_, suc-le-suc}
 use native.Mathlib.Omega.{arith}
 use borrow.Author.Needs.{needs}
 use lib.ListN.{length, getD}
 use Rattle.poly.specs.Sum.{total}
+use Rattle.field.proofs.Ring.{symbols-product}
 use Rattle.factors.specs.Factors.{run}
 use Rattle.factors.specs.Halves.{TwoFactors, left, right}
 use Rattle.factors.proofs.Quarters.{Quarters, quarters, left-at, right-at, left-small, right-small}
@@ -50,7 +50,7 @@ module _ (d : List ℕ) (from to : ℕ) (pre : TwoFactors d × (from ≤ to) × 
     other-small = rw other (omega (arith, right-small d (pre .0) (to + from - suc i) (omega (arith, t .begun))))
 
     product-small : getD d i 0 * getD d (j - 1) 0 ≤ 4294967296
-    product-small = mul-le-mul {n₂ = 65536} {m₂ = 65536} one-small other-small
+    product-small = symbols-product _ _ (suc-le-suc one-small) (suc-le-suc other-small)
 
     more : Turn d from to (sum + getD d i 0 * getD d (j - 1) 0) (i + 1) (j - 1)
     more =

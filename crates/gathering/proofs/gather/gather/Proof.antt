@@ -2,7 +2,7 @@
 -- Assumes nothing.
 use mathlib.Core.Path.{_≡_, refl, sym, ap, _∙_}
 use mathlib.Core.List.{List}
-use Prim.Native.Nat.{ℕ, suc, _+_, _*_, _-_, _<_, _≤_}
+use Prim.Native.Nat.{ℕ, suc, _+_, _*_, _-_, _≤_}
 use native.Mathlib.Nat.{le-of-eq}
 use native.Mathlib.Omega.{arith}
 use borrow.Author.Needs.{needs}
@@ -11,6 +11,7 @@ use Rattle.field.specs.Size.{sizeOf}
 use Rattle.layout.specs.Fields.{nIn, positionIn}
 use Rattle.layout.proofs.Passing.{header-inside}
 use Rattle.gathering.specs.Gathering.{cursorHeld, weightedHeld}
+use Rattle.gathering.proofs.Kept.{below}
 use Rattle.gathering.proofs.Gathering.{cells-long, Passed, passed-none, passed-more, passed-all}
 use Rattle.gathering.proofs.gather.gather.Statement.{statement}
 use Rattle.gathering.proofs.gather.gather.Tie as tie
@@ -25,9 +26,6 @@ abbrev μ-loop : tie.MeasureT-loop
 
 size-is : (s : List ℕ) (n size : ℕ) → n ≡ nIn s → size ≡ sizeOf n → size ≡ sizeOf (nIn s)
 size-is s n size first second = second ∙ ap sizeOf first
-
-below : (t held m : ℕ) → t < held → held ≡ m → t < m
-below t held m h is = omega arith
 
 stored : (s : List ℕ) (b t size : ℕ) (cells now : List ℕ) → size ≡ sizeOf (nIn s)
     → now ≡ set (set cells (positionIn s t) (weightedHeld s b t)) (6 * size + t) (cursorHeld s (suc b) t)

@@ -1,12 +1,13 @@
 -- `gathering::start::lay_shadows` meets its contract: at the loop's head the first t shadows are laid.
 -- Assumes nothing.
 use mathlib.Core.Path.{_≡_, subst, _∙_}
-use Prim.Native.Nat.{ℕ, _-_, _<_, _≤_}
+use Prim.Native.Nat.{ℕ, _-_, _≤_}
 use native.Mathlib.Omega.{arith}
 use borrow.Author.Needs.{needs}
 use lib.ListN.{length}
 use Rattle.layout.proofs.Passing.{header-inside}
 use Rattle.gathering.specs.Gathering.{Shadows}
+use Rattle.gathering.proofs.Kept.{below}
 use Rattle.gathering.proofs.Starting.{shadows-none, shadow-long, shadows-more}
 use Rattle.gathering.proofs.start.lay_shadows.Statement.{statement}
 use Rattle.gathering.proofs.start.lay_shadows.Tie as tie
@@ -16,10 +17,6 @@ Inv-loop bundle size cells₀ held t₀ cells t = (t ≤ held) × (length cells 
 
 abbrev μ-loop : tie.MeasureT-loop
 μ-loop bundle size cells₀ held t₀ cells t = held - t
-
--- held is what the code has read
-below : (t held m : ℕ) → t < held → held ≡ m → t < m
-below t held m h is = omega arith
 
 pub lay-shadows-spec : {M : Type 1} → statement M
 lay-shadows-spec =

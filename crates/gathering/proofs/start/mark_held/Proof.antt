@@ -12,6 +12,7 @@ use Rattle.layout.specs.Fields.{nIn, heldIn, positionIn}
 use Rattle.layout.specs.Layout.{layoutChecks}
 use Rattle.layout.proofs.Passing.{header-inside, entry-there}
 use Rattle.gathering.specs.Gathering.{marksIn}
+use Rattle.gathering.proofs.Kept.{below}
 use Rattle.gathering.proofs.Marking.{position-inside, marks-long, marks-none, marks-more}
 use Rattle.gathering.proofs.start.mark_held.Statement.{statement}
 use Rattle.gathering.proofs.start.mark_held.Tie as tie
@@ -23,9 +24,6 @@ abbrev μ-loop : tie.MeasureT-loop
 μ-loop bundle marks₀ held t₀ marks t = held - t
 
 -- held and place are what the code has read
-
-below : (t held m : ℕ) → t < held → held ≡ m → t < m
-below t held m h is = omega arith
 
 place : (s : List ℕ) → layoutChecks s ≡ result [] → (t at : ℕ) → t < heldIn s → at ≡ positionIn s t → at < sizeOf (nIn s)
 place s good t at h is = omega (arith, position-inside s good t h)

@@ -25,7 +25,7 @@ use Rattle.coset.specs.Between.{psi, valuesBetween}
 use Rattle.coset.specs.Room.{Table, Room}
 use Rattle.coset.proofs.Room.{K-some, table-kept}
 use Rattle.coset.proofs.Turning.{tabled}
-use Rattle.divide.specs.Dividing.{quotients, untwisted}
+use Rattle.divide.specs.Quotients.{quotients, untwisted}
 
 module _ (k N K : ℕ) (d : List ℕ) (room : Room N K d) (few : k ≤ K) where
   inside : N + K ≤ length d

@@ -28,7 +28,9 @@ use Rattle.powers.proofs.Part.{replaced-length, replaced-part, replaced-behind}
 use Rattle.coset.specs.Room.{Room}
 use Rattle.coset.proofs.Room.{size-N, size-K, levels, table-kept}
 use Rattle.coset.proofs.Turning.{whole-tabled}
-use Rattle.divide.specs.Dividing.{Divides, Missing, Inverses, quotients, untwisted, ZeroFrom, Told, Solved}
+use Rattle.divide.specs.Dividing.{Divides, Missing, Solved}
+use Rattle.divide.specs.Quotients.{Inverses, quotients, untwisted}
+use Rattle.divide.specs.Tests.{ZeroFrom, Told}
 use Rattle.divide.proofs.Dividing.{Found, grown, unit, entry-of, zero-from, found}
 use Rattle.divide.proofs.Untwisting.{untwisted-is}
 

@@ -27,7 +27,7 @@ use Rattle.halving.proofs.Sums.{values, sums-values}
 use Rattle.halving.proofs.Undo.{opposite}
 use Rattle.coset.specs.Between.{psi, between, valuesBetween}
 use Rattle.coset.proofs.Between.{psi-half}
-use Rattle.divide.specs.Dividing.{Inverses, quotients, untwisted}
+use Rattle.divide.specs.Quotients.{Inverses, quotients, untwisted}
 
 module _ (N K e c : ℕ) (size-N : N ≡ 2 ^ e) (level-N : levelOf N ≡ e) (size-K : K ≡ 2 ^ c) (level-K : levelOf K ≡ c) (le : c ≤ e) (few : e < 16) where
   w : ℕ

@@ -21,7 +21,9 @@ ghost use Rattle.poly.specs.Tab.{tab};
 ghost use Rattle.halving.specs.Transform.{sums};
 ghost use Rattle.powers.specs.Part.{replaced};
 ghost use Rattle.coset.specs.Room.{Table, Room};
-ghost use Rattle.divide.specs.Dividing.{Missing, Inverses, quotients, untwisted, ZeroFrom, Told, Solved};
+ghost use Rattle.divide.specs.Dividing.{Missing, Solved};
+ghost use Rattle.divide.specs.Quotients.{Inverses, quotients, untwisted};
+ghost use Rattle.divide.specs.Tests.{ZeroFrom, Told};
 
 // Whether all numbers from an index on are 0.
 fn zero_from(list: &[u32], from: usize) -> bool

@@ -1,4 +1,4 @@
-// Numbers of a lent list written to another place of it.
+// Numbers of a lent list written to another place of it. No entry point and for this crate alone: it asks that both places lie inside, apart.
 ghost use mathlib.Core.Path.{_≡_};
 ghost use mathlib.Core.Logic.{_⊎_};
 ghost use Prim.Native.Nat.{_+_, _≤_};

@@ -1,4 +1,4 @@
-// A few points, multiplied out one factor at a time.
+// A few points, multiplied out one factor at a time. No entry points and for this crate alone: `inner` has tested how many there are.
 use crate::moving::repeat;
 use field::inner::difference;
 use field::inner::product;

@@ -1,4 +1,5 @@
-// Two short products, multiplied by sums of products: a sum is reduced once.
+// Two short products, multiplied by sums of products: a sum is reduced once. No entry points and for this crate alone: they ask for two lists in
+// the halves of the cells.
 use crate::moving::repeat;
 ghost use mathlib.Core.Path.{_≡_};
 ghost use Prim.Native.Nat.{_+_, _*_, _/_, _<_, _≤_};

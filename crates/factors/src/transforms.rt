@@ -1,4 +1,5 @@
-// Two long products, multiplied by their values at the roots.
+// Two long products, multiplied by their values at the roots. No entry points and for this crate alone: they ask for two lists in the halves of
+// the cells.
 use cells::inner::clear;
 use field::inner::difference;
 use field::inner::product;

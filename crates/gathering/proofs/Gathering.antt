@@ -16,7 +16,7 @@ use Rattle.field.specs.Size.{sizeOf}
 use Rattle.storage.specs.Bytes.{Bytes}
 use Rattle.storage.specs.Storage.{bodySize, bodyGood, symbolIn, wordsAt, Placed}
 use Rattle.storage.proofs.Cursors.{cursor-limited}
-use Rattle.missing.specs.Missing.{weights}
+use Rattle.missing.specs.Weights.{weights}
 use Rattle.layout.specs.Fields.{nIn, heldIn, blocksIn, positionIn, countIn, offsetIn}
 use Rattle.layout.specs.Layout.{layoutChecks}
 use Rattle.layout.specs.Rooms.{workRoom}

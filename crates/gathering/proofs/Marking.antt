@@ -17,7 +17,8 @@ use Rattle.field.specs.Refusals.{result}
 use Rattle.field.specs.Size.{sizeOf}
 use Rattle.poly.specs.Tab.{tab}
 use Rattle.poly.proofs.Tab.{tab-length, tab-at}
-use Rattle.missing.specs.Missing.{Marks, unmarked}
+use Rattle.missing.specs.Marks.{Marks}
+use Rattle.missing.specs.Missing.{unmarked}
 use Rattle.missing.proofs.Laying.{unmarked-le}
 use Rattle.layout.specs.Fields.{nIn, heldIn, positionIn}
 use Rattle.layout.specs.Layout.{layoutChecks}

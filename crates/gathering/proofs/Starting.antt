@@ -21,8 +21,9 @@ use Rattle.poly.proofs.Tab.{tab-getD}
 use Rattle.poly.proofs.Window.{window, window-length, window-before, window-at, window-past}
 use Rattle.coset.specs.Between.{between}
 use Rattle.coset.proofs.Room.{power-at}
-use Rattle.divide.specs.Dividing.{Inverses}
-use Rattle.missing.specs.Missing.{missing, weights}
+use Rattle.divide.specs.Quotients.{Inverses}
+use Rattle.missing.specs.Missing.{missing}
+use Rattle.missing.specs.Weights.{weights}
 use Rattle.prepare.specs.Prepared.{Prepared}
 use Rattle.storage.specs.Storage.{wordsAt}
 use Rattle.storage.proofs.Cursors.{cursor-first}

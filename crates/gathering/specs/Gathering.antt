@@ -7,8 +7,9 @@ use lib.ListN.{length, getD, drop, replicate, set}
 use Rattle.field.specs.Field.{product, power}
 use Rattle.field.specs.Size.{sizeOf}
 use Rattle.coset.specs.Between.{psi}
-use Rattle.divide.specs.Dividing.{Inverses}
-use Rattle.missing.specs.Missing.{missing, weights}
+use Rattle.divide.specs.Quotients.{Inverses}
+use Rattle.missing.specs.Missing.{missing}
+use Rattle.missing.specs.Weights.{weights}
 use Rattle.storage.specs.Storage.{symbolIn, wordsAt, cursorAt}
 use Rattle.layout.specs.Fields.{kIn, nIn, heldIn, positionIn, countIn, offsetIn}
 use Rattle.layout.specs.Rooms.{workRoom}

@@ -35,7 +35,9 @@ use Rattle.code.proofs.Decoding.{symbol-≈, decodes-fitting, decodes-none}
 use Rattle.code.proofs.Meeting.{polynomial-message, message-of, polynomial-long, polynomial-symbols}
 use Rattle.code.proofs.Points.{point-one, points-length, points-apart}
 use Rattle.divide.specs.Dividing.{Divides, Missing, Solved}
-use Rattle.missing.specs.Missing.{Marks, missing, weights, Weighted}
+use Rattle.missing.specs.Marks.{Marks}
+use Rattle.missing.specs.Missing.{missing}
+use Rattle.missing.specs.Weights.{weights, Weighted}
 use Rattle.missing.proofs.Unmarked.{distinct-append, few-roots, point-full, Unmarked, unmarked-every, unmarked-distinct, unmarked-zero, unmarked-apart}
 
 module _ (k n : ℕ) (h : Held) (ready : Ready k n h) (marks : List ℕ) (m : Marks (sizeOf n) (h .positions) marks) where

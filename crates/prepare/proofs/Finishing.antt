@@ -36,8 +36,9 @@ use Rattle.coset.specs.Between.{psi, between, valuesBetween}
 use Rattle.coset.specs.Room.{Table, Room}
 use Rattle.coset.proofs.Between.{between-apart}
 use Rattle.coset.proofs.Room.{size-N, size-K, levels}
-use Rattle.divide.specs.Dividing.{Inverses}
-use Rattle.missing.specs.Missing.{missing, weights}
+use Rattle.divide.specs.Quotients.{Inverses}
+use Rattle.missing.specs.Missing.{missing}
+use Rattle.missing.specs.Weights.{weights}
 use Rattle.missing.proofs.Unmarked.{Unmarked, unmarked-every, point-full}
 use Rattle.prepare.specs.Prepared.{Prepared}
 use Rattle.prepare.proofs.Multiplying.{zeros-symbols}

@@ -5,8 +5,9 @@ use Prim.Native.Nat.{ℕ, _*_, _<_}
 use lib.ListN.{length, take, drop}
 use Rattle.field.specs.Size.{sizeOf}
 use Rattle.coset.specs.Room.{Table}
-use Rattle.divide.specs.Dividing.{Inverses}
-use Rattle.missing.specs.Missing.{missing, weights}
+use Rattle.divide.specs.Quotients.{Inverses}
+use Rattle.missing.specs.Missing.{missing}
+use Rattle.missing.specs.Weights.{weights}
 
 pub record Prepared (k n : ℕ) (marks : List ℕ) (count : ℕ) (cells : List ℕ) : Type 0 where
   pub counted : count ≡ length (missing (sizeOf n) marks)

@@ -1,4 +1,5 @@
-// The coefficients of M, the product of X - z over the missing points z, in the first N of 4N cells. No entry points and for this crate alone.
+// The coefficients of M, the product of X - z over the missing points z, in the first N of 4N cells. No entry points and for this crate alone: `prepare` has laid
+// the points.
 use cells::inner::clear;
 use factors::inner::multiply_out;
 ghost use mathlib.Core.Path.{_≡_};

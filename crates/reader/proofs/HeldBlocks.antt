@@ -12,7 +12,9 @@ use Rattle.poly.proofs.Symbols.{tab-symbols}
 use Rattle.poly.proofs.Tab.{tab-length, tab-at}
 use Rattle.code.specs.Held.{held}
 use Rattle.code.specs.Ready.{Ready}
-use Rattle.missing.specs.Missing.{Marks, missing, weights, Weighted}
+use Rattle.missing.specs.Marks.{Marks}
+use Rattle.missing.specs.Missing.{missing}
+use Rattle.missing.specs.Weights.{weights, Weighted}
 use Rattle.storage.specs.Bytes.{Bytes}
 use Rattle.layout.specs.Fields.{kIn, nIn, heldIn, positionIn, countIn, offsetIn}
 use Rattle.layout.specs.Layout.{layoutChecks}

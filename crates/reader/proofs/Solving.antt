@@ -28,8 +28,9 @@ use Rattle.code.proofs.Meeting.{message-is}
 use Rattle.coset.specs.Between.{psi, between}
 use Rattle.coset.specs.Room.{Room}
 use Rattle.coset.proofs.Room.{room-of}
-use Rattle.divide.specs.Dividing.{Missing, Inverses, Solved}
-use Rattle.missing.specs.Missing.{Weighted}
+use Rattle.divide.specs.Dividing.{Missing, Solved}
+use Rattle.divide.specs.Quotients.{Inverses}
+use Rattle.missing.specs.Weights.{Weighted}
 use Rattle.missing.proofs.Fitting.{counted, missing-in, decodes}
 use Rattle.storage.specs.Bytes.{Bytes}
 use Rattle.layout.specs.Fields.{kIn, nIn, heldIn}

@@ -34,8 +34,11 @@ use Rattle.code.specs.Rooms.{decodeRoom}
 use Rattle.code.proofs.Meeting.{message-is}
 use Rattle.coset.specs.Room.{Room}
 use Rattle.coset.proofs.Room.{room-of, table-kept}
-use Rattle.divide.specs.Dividing.{Missing, Inverses, Solved}
-use Rattle.missing.specs.Missing.{Marks, missing, weights, Weighted}
+use Rattle.divide.specs.Dividing.{Missing, Solved}
+use Rattle.divide.specs.Quotients.{Inverses}
+use Rattle.missing.specs.Marks.{Marks}
+use Rattle.missing.specs.Missing.{missing}
+use Rattle.missing.specs.Weights.{weights, Weighted}
 use Rattle.missing.proofs.Fitting.{counted, missing-in, decodes}
 use Rattle.missing.proofs.Laying.{unmarked-le}
 use Rattle.missing.proofs.Unmarked.{unmarked-zero}

@@ -22,7 +22,7 @@ ghost use Rattle.code.specs.Positions.{Inside};
 ghost use Rattle.code.specs.Ready.{Ready};
 ghost use Rattle.code.specs.Repeats.{Apart};
 ghost use Rattle.code.specs.Rooms.{decodeRoom};
-ghost use Rattle.missing.specs.Missing.{Marks};
+ghost use Rattle.missing.specs.Marks.{Marks};
 ghost use Rattle.recover.specs.Multiplied.{Multiplied};
 
 // A mark at each held position, and 0 at the others.

@@ -97,8 +97,12 @@ module _ (n S : ℕ) (cells : List ℕ) (size : S ≡ sizeOf n) (enough : n ≤ 
     unfolding noneCounted
     none-listed none = found-none n _ (λ i h. simp (eq-eqb (getD cells (S + i) 0) 0 (count-here i h ∙ none i h)))
 
-    pub counts-low : b < 65536 → (i : ℕ) → i < n → getD cells (S + i) 0 < 65536
+    counts-low : b < 65536 → (i : ℕ) → i < n → getD cells (S + i) 0 < 65536
     counts-low few i h = omega (arith, count-here i h, overflow-count (symbolAt k n file i) b)
+
+    -- what `tally` asks
+    pub tally-asked : b < 65536 → (n ≤ S) × (length cells ≡ 2 * S) × ((i : ℕ) → i < n → getD cells (S + i) 0 < 65536)
+    tally-asked few = (omega arith, omega (arith, counted .long), counts-low few)
 
     -- after is what the cells hold once the symbols are counted
     pub counted-more : (after : List ℕ) → Coded k n file b cells → length after ≡ length cells

@@ -11,7 +11,7 @@ use Rattle.poly.specs.Tab.{tab}
 use Rattle.poly.proofs.Window.{window, window-none, window-store, window-past, window-length, window-rest}
 use Rattle.coset.specs.Room.{Table}
 use Rattle.coset.proofs.Room.{table-kept}
-use Rattle.divide.specs.Dividing.{untwisted}
+use Rattle.divide.specs.Quotients.{untwisted}
 use Rattle.divide.proofs.inner.untwist.Statement.{statement}
 use Rattle.divide.proofs.inner.untwist.Tie as tie
 

@@ -15,7 +15,7 @@ use Rattle.field.proofs.Ring.{difference-lt}
 use Rattle.coset.specs.Between.{psi}
 use Rattle.coset.specs.Room.{Table}
 use Rattle.coset.proofs.Room.{power-at, size-N, N-small}
-use Rattle.divide.specs.Dividing.{untwisted}
+use Rattle.divide.specs.Quotients.{untwisted}
 use Rattle.divide.proofs.Untwisting.{untwist}
 use Rattle.divide.proofs.inner.untwist_one.Statement.{statement}
 use Rattle.divide.proofs.inner.untwist_one.Tie as tie

@@ -3,7 +3,7 @@
 use native.Mathlib.Omega.{arith}
 use borrow.Author.Needs.{needs}
 use Rattle.layout.proofs.Holding.{limits}
-use Rattle.words.proofs.Counting.{n-fits, counts-low, counted-more}
+use Rattle.words.proofs.Counting.{n-fits, tally-asked, counted-more}
 use Rattle.plain.proofs.inner.pass_block.Statement.{statement}
 use Rattle.plain.proofs.inner.pass_block.Tie as tie
 
@@ -20,12 +20,8 @@ pass-block-spec =
     (λ c κs.
     let coded = c .before .before .before .before .before .before .before .before .code-front in
     let start = c .before .before .before .before .before .before .before .before .before .before .before .before .before .before in
-    let enough = n-fits _ (start .args .n) _ (start .pre .0) in (
-      omega (arith, c .before .before .before .before .before .before .before .before .before .before .size .ensures),
-      omega (arith, c .before .before .before .before .before .before .before .before .before .before .size .ensures, coded .ensures .1 .long),
-      counts-low (start .args .n) _ (coded .last .1 .1 .1 .1 .0) (c .before .before .before .before .before .before .before .before .before .before .size .ensures) enough (start .args .k) (start .args .file .now) (start .args .b) (coded .ensures .1)
-          (omega (arith, limits _ _ _ (start .pre .0) .blocks)),
-    ))
+    tally-asked (start .args .n) _ (coded .last .1 .1 .1 .1 .0) (c .before .before .before .before .before .before .before .before .before .before .size .ensures) (n-fits _ (start .args .n) _ (start .pre .0)) (start .args .k) (start .args .file .now) (start .args .b) (coded .ensures .1)
+    (omega (arith, limits _ _ _ (start .pre .0) .blocks)))
     (λ c. search needs)
     (λ c. search needs)
     (λ c.

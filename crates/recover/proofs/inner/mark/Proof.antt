@@ -8,7 +8,7 @@ use native.Mathlib.Omega.{arith}
 use borrow.Author.Needs.{needs}
 use lib.ListN.{length, getD, set, replicate, length-set, length-replicate, getD-replicate}
 use lib.Seq.{getD-set-same, getD-set-other}
-use Rattle.missing.specs.Missing.{Marks}
+use Rattle.missing.specs.Marks.{Marks}
 use Rattle.recover.proofs.inner.mark.Statement.{statement}
 use Rattle.recover.proofs.inner.mark.Tie as tie
 

@@ -21,8 +21,8 @@ use Rattle.code.specs.Codable.{Codable}
 use Rattle.code.specs.Ready.{Ready}
 use Rattle.code.specs.Repeats.{firstRepeat}
 use Rattle.code.specs.Rooms.{encodeRoom, decodeRoom}
-use Rattle.positions.proofs.Outside.{outside-none, none-outside}
-use Rattle.positions.proofs.Repeating.{repeat-none, none-repeat}
+use Rattle.code_positions.proofs.Outside.{outside-none, none-outside}
+use Rattle.code_positions.proofs.Repeating.{repeat-none, none-repeat}
 
 pub encode-passed : (k n : ℕ) (message : List ℕ) (out work : ℕ) → encodeChecks k n message out work ≡ result []
     → Codable n message × (length message ≡ k) × (n ≤ out) × (encodeRoom n ≤ work)

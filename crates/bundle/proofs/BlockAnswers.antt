@@ -9,8 +9,8 @@ use Rattle.field.specs.Refusals.{result, refused}
 use Rattle.field.specs.declared.refusal.Refusal.the-variants.{Disagree, Word, Tail}
 use Rattle.field.proofs.Refusals.{result-no-refusal}
 use Rattle.block.proofs.Disagreeing.{Before, passing, before-if}
-use Rattle.layout.specs.Fields.{kIn, lengthIn}
-use Rattle.reader.specs.Reading.{decodedAt, badWord, badTail, judged, blockAnswer}
+use Rattle.bundle_layout.specs.Fields.{kIn, lengthIn}
+use Rattle.bundle_read.specs.Reading.{decodedAt, badWord, badTail, judged, blockAnswer}
 use Rattle.bundle.proofs.Passing.{before-disagree, before-result}
 
 module _ (s : List ℕ) (b : ℕ) where

@@ -25,24 +25,24 @@ use Rattle.code.specs.Message.{IsMessage}
 use Rattle.code.specs.Rooms.{encodeRoom, decodeRoom}
 use Rattle.block.specs.Theorems.{Encodes, Decodes}
 use Rattle.block.proofs.Theorems.{encodes-word, encode-decode}
-use Rattle.storage.specs.Blocks.{blocksOf, longestFile, mostBlocks, badBundleShape}
-use Rattle.storage.specs.Bytes.{Bytes, two, four, inBytes, twoAt}
-use Rattle.layout.specs.Fields.{lengthIn, entryAt, countIn}
-use Rattle.layout.specs.Held.{upTo}
-use Rattle.layout.specs.Mark.{mark}
-use Rattle.layout.specs.Shadows.{headerSize, entrySize, firstBody, header, entry, table, bodies, bundleOf}
-use Rattle.storage.specs.Storage.{overflows, wordOf, bodyOf}
-use Rattle.layout.proofs.Accepting.{passes, read-L, bundle-length}
-use Rattle.storage.proofs.BytesLaws.{two-alike, four-alike, alike-front}
-use Rattle.layout.proofs.Holding.{all-length}
-use Rattle.layout.proofs.Passing.{entry-there}
-use Rattle.words.specs.File.{padded, messageAt, symbolAt, countAt, shadowOf, bundleAt, fileBundle}
-use Rattle.layout.specs.Rooms.{writeRoom, workRoom}
+use Rattle.bundle_storage.specs.Blocks.{blocksOf, longestFile, mostBlocks, badBundleShape}
+use Rattle.bundle_storage.specs.Bytes.{Bytes, two, four, inBytes, twoAt}
+use Rattle.bundle_layout.specs.Fields.{lengthIn, entryAt, countIn}
+use Rattle.bundle_layout.specs.Held.{upTo}
+use Rattle.bundle_layout.specs.Mark.{mark}
+use Rattle.bundle_layout.specs.Shadows.{headerSize, entrySize, firstBody, header, entry, table, bodies, bundleOf}
+use Rattle.bundle_storage.specs.Storage.{overflows, wordOf, bodyOf}
+use Rattle.bundle_layout.proofs.Accepting.{passes, read-L, bundle-length}
+use Rattle.bundle_storage.proofs.BytesLaws.{two-alike, four-alike, alike-front}
+use Rattle.bundle_layout.proofs.Holding.{all-length}
+use Rattle.bundle_layout.proofs.Passing.{entry-there}
+use Rattle.bundle_file.specs.File.{padded, messageAt, symbolAt, countAt, shadowOf, bundleAt, fileBundle}
+use Rattle.bundle_layout.specs.Rooms.{writeRoom, workRoom}
 use Rattle.bundle.specs.Useless.{Coder, KeepsEncode, KeepsDecode, KeepsWrite, KeepsRead, Refused, AnswersSome, NotConstant, WritesSomething, CodesLaterBlocks, InventsNothing, Useless}
-use Rattle.front.proofs.Bundling.{file-is-bundle, held-all, all-rise, bundle-count}
+use Rattle.bundle_front.proofs.Bundling.{file-is-bundle, held-all, all-rise, bundle-count}
 use Rattle.bundle.proofs.Demands.{writes-bundle, write-read}
 use Rattle.bundle.proofs.Shadowing.{bundle-bytes}
-use Rattle.words.proofs.Padding.{zeros-behind}
+use Rattle.bundle_file.proofs.Padding.{zeros-behind}
 
 -- a call left a result, and x at a place of the list that takes it
 record Told (it : Leaves) (place x : ℕ) : Type 0 where

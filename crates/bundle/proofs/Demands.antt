@@ -13,19 +13,19 @@ use Rattle.field.proofs.Leaves.{leaves-done}
 use Rattle.field.proofs.Refusals.{result-no-refusal}
 use Rattle.code.specs.Altered.{alteredCount}
 use Rattle.block.proofs.Theorems.{decodes-none}
-use Rattle.layout.specs.Fields.{kIn, nIn, heldIn, blocksIn}
-use Rattle.layout.specs.Held.{upTo, IsBundle}
-use Rattle.layout.specs.Shadows.{Shadow}
-use Rattle.layout.proofs.Accepting.{passes, read-k, read-n, read-L, read-blocks}
-use Rattle.layout.proofs.Holding.{limits, all-length}
+use Rattle.bundle_layout.specs.Fields.{kIn, nIn, heldIn, blocksIn}
+use Rattle.bundle_layout.specs.Held.{upTo, IsBundle}
+use Rattle.bundle_layout.specs.Shadows.{Shadow}
+use Rattle.bundle_layout.proofs.Accepting.{passes, read-k, read-n, read-L, read-blocks}
+use Rattle.bundle_layout.proofs.Holding.{limits, all-length}
 use Rattle.bundle.specs.Checks.{writeChecks}
-use Rattle.words.specs.File.{messageAt, shadowOf, bundleAt, fileBundle}
-use Rattle.reader.specs.Reading.{heldAt, decodedAt}
+use Rattle.bundle_file.specs.File.{messageAt, shadowOf, bundleAt, fileBundle}
+use Rattle.bundle_read.specs.Reading.{heldAt, decodedAt}
 use Rattle.bundle.specs.Theorems.{WritesBundle, WriteRead, LoseRead, DisagreeExactly, NeverAnother, TakenIsSent}
 use Rattle.bundle.proofs.BlockAnswers.{block-disagrees}
-use Rattle.reader.proofs.HeldBlocks.{ready}
+use Rattle.bundle_read.proofs.HeldBlocks.{ready}
 use Rattle.bundle.proofs.Passing.{write-passes, after-passed, after-disagree, read-before, read-passed}
-use Rattle.front.proofs.Bundling.{file-is-bundle, held-all, all-rise}
+use Rattle.bundle_front.proofs.Bundling.{file-is-bundle, held-all, all-rise}
 use Rattle.bundle.proofs.Shadowing.{bundle-bytes, none-altered}
 use Rattle.bundle.proofs.Taking.{demand}
 use Rattle.bundle.proofs.Walking.{first-refused, disagree-first, read-leaves, read-answer}

@@ -11,12 +11,12 @@ use Rattle.field.specs.declared.refusal.Refusal.the-variants.{Shape, Room, Few,
 use Rattle.field.proofs.Checks.{passed, or-false}
 use Rattle.field.proofs.Refusals.{result-no-refusal}
 use Rattle.block.proofs.Disagreeing.{Before, passing, other, before-if}
-use Rattle.storage.specs.Blocks.{blocksOf, badBundleShape}
-use Rattle.layout.specs.Facts.{after}
-use Rattle.layout.specs.Fields.{kIn, nIn, lengthIn, heldIn}
-use Rattle.layout.specs.Layout.{badFront, restGood, layoutChecks}
+use Rattle.bundle_storage.specs.Blocks.{blocksOf, badBundleShape}
+use Rattle.bundle_layout.specs.Facts.{after}
+use Rattle.bundle_layout.specs.Fields.{kIn, nIn, lengthIn, heldIn}
+use Rattle.bundle_layout.specs.Layout.{badFront, restGood, layoutChecks}
 use Rattle.bundle.specs.Checks.{writeChecks, roomChecks, readChecks}
-use Rattle.layout.specs.Rooms.{writeRoom, workRoom}
+use Rattle.bundle_layout.specs.Rooms.{writeRoom, workRoom}
 
 pub write-passes : (k n L out work : ℕ) → badBundleShape k n L ≡ false → writeRoom n (blocksOf k L) ≤ out → workRoom n ≤ work
     → writeChecks k n L out work ≡ result []

@@ -13,11 +13,11 @@ use Rattle.field.specs.declared.refusal.Outcome.{Outcome}
 use Rattle.field.specs.declared.refusal.Outcome.the-variants.{Done, Refused}
 use Rattle.field.specs.declared.refusal.Refusal.{Refusal}
 use Rattle.field.proofs.Leaves.{zeroed-all, zeroed-again}
-use Rattle.layout.specs.Facts.{after}
-use Rattle.layout.specs.Fields.{nIn, lengthIn, blocksIn}
+use Rattle.bundle_layout.specs.Facts.{after}
+use Rattle.bundle_layout.specs.Fields.{nIn, lengthIn, blocksIn}
 use Rattle.bundle.specs.Calls.{blocksLeave}
-use Rattle.reader.specs.Reading.{blocksAnswer, bytesBefore, fileIn}
-use Rattle.layout.specs.Rooms.{workRoom}
+use Rattle.bundle_read.specs.Reading.{blocksAnswer, bytesBefore, fileIn}
+use Rattle.bundle_layout.specs.Rooms.{workRoom}
 
 -- all there is is written
 written-all : (vs list : List ℕ) → length list ≤ length vs → written vs list ≡ vs

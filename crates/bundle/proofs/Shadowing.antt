@@ -14,21 +14,21 @@ use Rattle.field.proofs.First.{first-before}
 use Rattle.code.specs.Altered.{alteredCount}
 use Rattle.code.specs.Code.{symbolOf}
 use Rattle.block.proofs.Altering.{fits-none}
-use Rattle.storage.specs.Blocks.{blocksOf, badBundleShape}
-use Rattle.storage.specs.Bytes.{Bytes, two, four}
-use Rattle.layout.specs.Fields.{heldIn}
-use Rattle.layout.specs.Held.{AllStored, IsBundle}
-use Rattle.layout.specs.Mark.{mark}
-use Rattle.layout.specs.Shadows.{Shadow, firstBody, header, entry, table, bodies, bundleOf}
-use Rattle.storage.specs.Storage.{symbolIn}
-use Rattle.storage.proofs.BytesLaws.{bytes-append, two-bytes, four-bytes}
-use Rattle.layout.proofs.Passing.{bundle-shape-told}
-use Rattle.storage.proofs.Theorems.{body-stores}
-use Rattle.words.specs.File.{Rising, messageAt, symbolAt, bundleAt}
-use Rattle.reader.specs.Reading.{symbolHeld, heldAt}
-use Rattle.words.proofs.Padding.{message-is}
-use Rattle.front.proofs.Bundling.{symbol-small, held-all, position-held, count-held, body-held}
-use Rattle.reader.proofs.HeldBlocks.{held-count, held-position, held-value}
+use Rattle.bundle_storage.specs.Blocks.{blocksOf, badBundleShape}
+use Rattle.bundle_storage.specs.Bytes.{Bytes, two, four}
+use Rattle.bundle_layout.specs.Fields.{heldIn}
+use Rattle.bundle_layout.specs.Held.{AllStored, IsBundle}
+use Rattle.bundle_layout.specs.Mark.{mark}
+use Rattle.bundle_layout.specs.Shadows.{Shadow, firstBody, header, entry, table, bodies, bundleOf}
+use Rattle.bundle_storage.specs.Storage.{symbolIn}
+use Rattle.bundle_storage.proofs.BytesLaws.{bytes-append, two-bytes, four-bytes}
+use Rattle.bundle_layout.proofs.Passing.{bundle-shape-told}
+use Rattle.bundle_storage.proofs.Theorems.{body-stores}
+use Rattle.bundle_file.specs.File.{Rising, messageAt, symbolAt, bundleAt}
+use Rattle.bundle_read.specs.Reading.{symbolHeld, heldAt}
+use Rattle.bundle_file.proofs.Padding.{message-is}
+use Rattle.bundle_front.proofs.Bundling.{symbol-small, held-all, position-held, count-held, body-held}
+use Rattle.bundle_read.proofs.HeldBlocks.{held-count, held-position, held-value}
 
 -- A bundle's numbers are bytes
 

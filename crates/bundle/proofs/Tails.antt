@@ -9,12 +9,12 @@ use borrow.Author.Tests.{eq-eqb, ne-eqb}
 use lib.Dec.{eqb}
 use lib.ListN.{length, getD, drop, length-drop, List·getD-eq-default}
 use lib.Seq.{getD-drop}
-use Rattle.storage.specs.Bytes.{Bytes, inBytes}
-use Rattle.storage.proofs.BytesLaws.{in-bytes-length, two-lt}
-use Rattle.words.specs.File.{padded, messageAt}
-use Rattle.words.proofs.Padding.{padded-at, padded-bytes, message-at, message-length, bytes-at}
-use Rattle.reader.specs.Reading.{badWord, badTail}
-use Rattle.reader.proofs.Searching.{meets-none}
+use Rattle.bundle_storage.specs.Bytes.{Bytes, inBytes}
+use Rattle.bundle_storage.proofs.BytesLaws.{in-bytes-length, two-lt}
+use Rattle.bundle_file.specs.File.{padded, messageAt}
+use Rattle.bundle_file.proofs.Padding.{padded-at, padded-bytes, message-at, message-length, bytes-at}
+use Rattle.bundle_read.specs.Reading.{badWord, badTail}
+use Rattle.bundle_read.proofs.Searching.{meets-none}
 
 module _ (k : ℕ) (file : List ℕ) (bytes : Bytes file) (b : ℕ) where
   pub word-good : badWord (messageAt k file b) ≡ false

@@ -22,21 +22,21 @@ use Rattle.code.specs.Altered.{alteredCount}
 use Rattle.code.specs.Fits.{Fits}
 use Rattle.block.proofs.Altering.{none-fits, fits-none, few-altered}
 use Rattle.block.proofs.Theorems.{decodes-fitting, decodes-none}
-use Rattle.storage.specs.Blocks.{blocksOf}
-use Rattle.storage.specs.Bytes.{Bytes, inBytes, twoAt}
-use Rattle.layout.specs.Fields.{kIn, nIn, lengthIn, heldIn, blocksIn}
-use Rattle.layout.specs.Layout.{layoutChecks}
-use Rattle.storage.proofs.BytesLaws.{in-bytes-append}
-use Rattle.layout.proofs.Passing.{k-some}
-use Rattle.words.specs.File.{padded, messageAt}
-use Rattle.reader.specs.Reading.{heldAt, decodedAt, blockAnswer, bytesOf, bytesBefore, fileIn}
-use Rattle.layout.specs.Rooms.{workRoom}
+use Rattle.bundle_storage.specs.Blocks.{blocksOf}
+use Rattle.bundle_storage.specs.Bytes.{Bytes, inBytes, twoAt}
+use Rattle.bundle_layout.specs.Fields.{kIn, nIn, lengthIn, heldIn, blocksIn}
+use Rattle.bundle_layout.specs.Layout.{layoutChecks}
+use Rattle.bundle_storage.proofs.BytesLaws.{in-bytes-append}
+use Rattle.bundle_layout.proofs.Passing.{k-some}
+use Rattle.bundle_file.specs.File.{padded, messageAt}
+use Rattle.bundle_read.specs.Reading.{heldAt, decodedAt, blockAnswer, bytesOf, bytesBefore, fileIn}
+use Rattle.bundle_layout.specs.Rooms.{workRoom}
 use Rattle.bundle.specs.Theorems.{Reads, Refuses, Demand3}
-use Rattle.words.proofs.Padding.{padded-words, message-is}
+use Rattle.bundle_file.proofs.Padding.{padded-words, message-is}
 use Rattle.bundle.proofs.Tails.{word-good, tail-good}
 use Rattle.bundle.proofs.Passing.{read-passes}
 use Rattle.bundle.proofs.BlockAnswers.{block-taken, block-disagrees}
-use Rattle.reader.proofs.HeldBlocks.{held-count, ready}
+use Rattle.bundle_read.proofs.HeldBlocks.{held-count, ready}
 use Rattle.bundle.proofs.Walking.{all-taken, first-refused, read-leaves}
 
 module _ (file s : List ℕ) (bytes : Bytes file) (of-bytes : Bytes s) (good : layoutChecks s ≡ result []) (enough : kIn s ≤ heldIn s)

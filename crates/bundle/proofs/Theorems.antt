@@ -3,7 +3,7 @@
 use Rattle.bundle.specs.Theorems.{FileIsBundle, WritesBundle, WriteRead, LoseRead, DisagreeExactly, NeverAnother, TakenIsSent, WriteSettled, ReadSettled}
 use Rattle.bundle.specs.Useless.{Useless}
 use Rattle.bundle.specs.Worked.{WorkedTable}
-use Rattle.front.proofs.Bundling as Bundling
+use Rattle.bundle_front.proofs.Bundling as Bundling
 use Rattle.bundle.proofs.Coders as Coders
 use Rattle.bundle.proofs.Demands as Demands
 use Rattle.bundle.proofs.Settling.{settled}

@@ -12,11 +12,11 @@ use Rattle.field.specs.Refusals.{Answer, result, refusal, refused}
 use Rattle.field.specs.declared.refusal.Refusal.the-variants.{Disagree}
 use Rattle.field.proofs.Leaves.{leaves-done}
 use Rattle.field.proofs.Refusals.{result-no-refusal}
-use Rattle.layout.specs.Facts.{after}
-use Rattle.layout.specs.Fields.{lengthIn, blocksIn}
+use Rattle.bundle_layout.specs.Facts.{after}
+use Rattle.bundle_layout.specs.Fields.{lengthIn, blocksIn}
 use Rattle.bundle.specs.Calls.{blocksLeave, readLeaves}
 use Rattle.bundle.specs.Checks.{readChecks}
-use Rattle.reader.specs.Reading.{decodedAt, blockAnswer, blocksAnswer}
+use Rattle.bundle_read.specs.Reading.{decodedAt, blockAnswer, blocksAnswer}
 use Rattle.bundle.proofs.BlockAnswers.{block-result, disagrees-none}
 
 module _ (s : List ℕ) where

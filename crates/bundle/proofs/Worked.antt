@@ -19,7 +19,7 @@ use Rattle.field.specs.declared.refusal.Refusal.the-variants.{Tail, Form}
 use Rattle.poly.specs.Sum.{total}
 use Rattle.poly.specs.Tab.{tab}
 use Rattle.poly.specs.Value.{value}
-use Rattle.halving.proofs.Theorems as Transform
+use Rattle.transform_halving.proofs.Theorems as Transform
 use Rattle.code.specs.Altered.{alteredCount}
 use Rattle.code.specs.Code.{symbolOf}
 use Rattle.code.specs.Held.{held}
@@ -27,25 +27,25 @@ use Rattle.code.specs.Meeting.{polynomialOf}
 use Rattle.code.specs.Message.{IsMessage}
 use Rattle.block.proofs.Altering.{none-fits}
 use Rattle.block.proofs.Theorems.{decodes-fitting, worked-numbers}
-use Rattle.storage.specs.Blocks.{blocksOf, longestFile, mostBlocks, badBundleShape}
-use Rattle.storage.specs.Bytes.{Bytes, two, four, inBytes, twoAt, fourAt}
-use Rattle.layout.specs.Facts.{after}
-use Rattle.layout.specs.Fields.{kIn, nIn, lengthIn, heldIn, lastIn, blocksIn, entryAt, positionIn, countIn, offsetIn}
-use Rattle.layout.specs.Held.{upTo}
-use Rattle.layout.specs.Layout.{badFront, startOf, badEntry, restGood, layoutChecks}
-use Rattle.layout.specs.Mark.{mark, startsWith}
-use Rattle.storage.specs.Rising.{least, outOfOrder, rises}
-use Rattle.layout.specs.Shadows.{headerSize, entrySize, firstBody, header, entry, table, bodies, bundleOf}
-use Rattle.storage.specs.Storage.{overflows, wordOf, countOf, bodyOf, bodySize, listAt, bodyGood, listed, symbolIn}
+use Rattle.bundle_storage.specs.Blocks.{blocksOf, longestFile, mostBlocks, badBundleShape}
+use Rattle.bundle_storage.specs.Bytes.{Bytes, two, four, inBytes, twoAt, fourAt}
+use Rattle.bundle_layout.specs.Facts.{after}
+use Rattle.bundle_layout.specs.Fields.{kIn, nIn, lengthIn, heldIn, lastIn, blocksIn, entryAt, positionIn, countIn, offsetIn}
+use Rattle.bundle_layout.specs.Held.{upTo}
+use Rattle.bundle_layout.specs.Layout.{badFront, startOf, badEntry, restGood, layoutChecks}
+use Rattle.bundle_layout.specs.Mark.{mark, startsWith}
+use Rattle.bundle_storage.specs.Rising.{least, outOfOrder, rises}
+use Rattle.bundle_layout.specs.Shadows.{headerSize, entrySize, firstBody, header, entry, table, bodies, bundleOf}
+use Rattle.bundle_storage.specs.Storage.{overflows, wordOf, countOf, bodyOf, bodySize, listAt, bodyGood, listed, symbolIn}
 use Rattle.bundle.specs.Calls.{blocksLeave, readLeaves}
 use Rattle.bundle.specs.Checks.{roomChecks, readChecks}
-use Rattle.words.specs.File.{padded, messageAt, symbolAt, shadowOf, bundleAt, fileBundle}
-use Rattle.reader.specs.Reading.{symbolHeld, heldAt, decodedAt, some-meets, badWord, badTail, judged, blockAnswer, blocksAnswer}
+use Rattle.bundle_file.specs.File.{padded, messageAt, symbolAt, shadowOf, bundleAt, fileBundle}
+use Rattle.bundle_read.specs.Reading.{symbolHeld, heldAt, decodedAt, some-meets, badWord, badTail, judged, blockAnswer, blocksAnswer}
 use Rattle.bundle.specs.Theorems.{Writes, Reads, Refuses}
 use Rattle.bundle.specs.Worked.{file11, bundle11, bundle12, WorkedTable}
 use Rattle.bundle.proofs.Demands.{writes-bundle, write-read}
-use Rattle.reader.proofs.HeldBlocks.{ready}
-use Rattle.words.proofs.Padding.{message-is}
+use Rattle.bundle_read.proofs.HeldBlocks.{ready}
+use Rattle.bundle_file.proofs.Padding.{message-is}
 use Rattle.bundle.proofs.Passing.{read-passes}
 use Rattle.bundle.proofs.Shadowing.{all-bytes}
 use Rattle.bundle.proofs.Walking.{first-refused, read-leaves}

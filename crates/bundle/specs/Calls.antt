@@ -4,11 +4,11 @@ use Prim.Native.Nat.{ℕ}
 use lib.ListN.{length, replicate}
 use Rattle.field.specs.Leaves.{Leaves, left, unlessRefused, written, zeroed}
 use Rattle.field.specs.Refusals.{Answer, result, refusal}
-use Rattle.layout.specs.Fields.{nIn, lengthIn, blocksIn}
+use Rattle.bundle_layout.specs.Fields.{nIn, lengthIn, blocksIn}
 use Rattle.bundle.specs.Checks.{writeChecks, readChecks}
-use Rattle.words.specs.File.{fileBundle}
-use Rattle.reader.specs.Reading.{blocksAnswer, fileIn}
-use Rattle.layout.specs.Rooms.{workRoom}
+use Rattle.bundle_file.specs.File.{fileBundle}
+use Rattle.bundle_read.specs.Reading.{blocksAnswer, fileIn}
+use Rattle.bundle_layout.specs.Rooms.{workRoom}
 
 abbrev pub writeLeaves : ℕ → ℕ → List ℕ → List ℕ → List ℕ → Leaves
 writeLeaves k n file out work =

@@ -5,11 +5,11 @@ use Prim.Native.Nat.{ℕ}
 use lib.Dec.{ltb}
 use Rattle.field.specs.Refusals.{Answer, result, refuseIf}
 use Rattle.field.specs.declared.refusal.Refusal.the-variants.{Shape, Room, Few}
-use Rattle.storage.specs.Blocks.{blocksOf, badBundleShape}
-use Rattle.layout.specs.Facts.{after}
-use Rattle.layout.specs.Fields.{kIn, nIn, lengthIn, heldIn}
-use Rattle.layout.specs.Layout.{layoutChecks}
-use Rattle.layout.specs.Rooms.{writeRoom, workRoom}
+use Rattle.bundle_storage.specs.Blocks.{blocksOf, badBundleShape}
+use Rattle.bundle_layout.specs.Facts.{after}
+use Rattle.bundle_layout.specs.Fields.{kIn, nIn, lengthIn, heldIn}
+use Rattle.bundle_layout.specs.Layout.{layoutChecks}
+use Rattle.bundle_layout.specs.Rooms.{writeRoom, workRoom}
 
 -- out and work are the lengths of the output and of the working space, L that of the file
 

@@ -11,17 +11,17 @@ use Rattle.field.specs.declared.refusal.Refusal.{Refusal}
 use Rattle.field.specs.declared.refusal.Refusal.the-variants.{Disagree}
 use Rattle.code.specs.Altered.{alteredCount}
 use Rattle.code.specs.Fits.{Fits}
-use Rattle.storage.specs.Blocks.{blocksOf, badBundleShape}
-use Rattle.storage.specs.Bytes.{Bytes}
-use Rattle.layout.specs.Fields.{kIn, nIn, lengthIn, heldIn, blocksIn}
-use Rattle.layout.specs.Held.{IsBundle}
-use Rattle.layout.specs.Layout.{layoutChecks}
+use Rattle.bundle_storage.specs.Blocks.{blocksOf, badBundleShape}
+use Rattle.bundle_storage.specs.Bytes.{Bytes}
+use Rattle.bundle_layout.specs.Fields.{kIn, nIn, lengthIn, heldIn, blocksIn}
+use Rattle.bundle_layout.specs.Held.{IsBundle}
+use Rattle.bundle_layout.specs.Layout.{layoutChecks}
 use Rattle.bundle.specs.Answers.{Settled}
 use Rattle.bundle.specs.Calls.{writeLeaves, readLeaves}
 use Rattle.bundle.specs.Checks.{readChecks}
-use Rattle.words.specs.File.{Rising, messageAt, shadowOf, bundleAt, fileBundle}
-use Rattle.reader.specs.Reading.{heldAt, blockAnswer}
-use Rattle.layout.specs.Rooms.{writeRoom, workRoom}
+use Rattle.bundle_file.specs.File.{Rising, messageAt, shadowOf, bundleAt, fileBundle}
+use Rattle.bundle_read.specs.Reading.{heldAt, blockAnswer}
+use Rattle.bundle_layout.specs.Rooms.{writeRoom, workRoom}
 
 -- The calls: what they leave, given room
 

@@ -8,12 +8,12 @@ use lib.ListN.{length}
 use Rattle.field.specs.Leaves.{Leaves}
 use Rattle.field.specs.Refusals.{result, refusal}
 use Rattle.block.specs.Calls.{encodeLeaves, decodeLeaves}
-use Rattle.storage.specs.Blocks.{blocksOf, badBundleShape}
-use Rattle.storage.specs.Bytes.{Bytes}
-use Rattle.layout.specs.Fields.{lengthIn, countIn}
+use Rattle.bundle_storage.specs.Blocks.{blocksOf, badBundleShape}
+use Rattle.bundle_storage.specs.Bytes.{Bytes}
+use Rattle.bundle_layout.specs.Fields.{lengthIn, countIn}
 use Rattle.bundle.specs.Calls.{writeLeaves, readLeaves}
-use Rattle.words.specs.File.{messageAt, countAt, fileBundle}
-use Rattle.layout.specs.Rooms.{writeRoom, workRoom}
+use Rattle.bundle_file.specs.File.{messageAt, countAt, fileBundle}
+use Rattle.bundle_layout.specs.Rooms.{writeRoom, workRoom}
 
 pub record Coder : Type 0 where
   pub encode : ℕ → ℕ → List ℕ → List ℕ → List ℕ → Leaves

@@ -6,9 +6,9 @@ use lib.ListN.{set}
 use Rattle.field.specs.Leaves.{left}
 use Rattle.field.specs.Refusals.{refused}
 use Rattle.field.specs.declared.refusal.Refusal.the-variants.{Tail, Form}
-use Rattle.halving.specs.Transform.{transformOf, inverseOf}
+use Rattle.transform_halving.specs.Transform.{transformOf, inverseOf}
 use Rattle.block.specs.Theorems.{Encodes, Decodes, Disagrees}
-use Rattle.layout.specs.Fields.{blocksIn}
+use Rattle.bundle_layout.specs.Fields.{blocksIn}
 use Rattle.bundle.specs.Calls.{readLeaves}
 use Rattle.bundle.specs.Theorems.{Writes, Reads, Refuses}
 

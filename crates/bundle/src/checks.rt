@@ -2,20 +2,20 @@
 // crate alone.
 use crate::rooms::work_room;
 use crate::rooms::write_room;
+use bundle_layout::inner::bad_bundle_shape;
+use bundle_layout::inner::blocks;
+use bundle_layout::inner::held_in;
+use bundle_layout::inner::k_in;
+use bundle_layout::inner::layout_checks;
+use bundle_layout::inner::length_in;
+use bundle_layout::inner::n_in;
 use field::Outcome;
 use field::Refusal;
 use field::inner::too_short;
-use layout::inner::bad_bundle_shape;
-use layout::inner::blocks;
-use layout::inner::held_in;
-use layout::inner::k_in;
-use layout::inner::layout_checks;
-use layout::inner::length_in;
-use layout::inner::n_in;
 ghost use mathlib.Core.Path.{_≡_};
 ghost use mathlib.Core.List.{[]};
 ghost use Rattle.field.specs.Refusals.{result, toldOutcome};
-ghost use Rattle.layout.specs.Layout.{layoutChecks};
+ghost use Rattle.bundle_layout.specs.Layout.{layoutChecks};
 ghost use Rattle.bundle.specs.Checks.{writeChecks, roomChecks, readChecks};
 
 // length is the file's, out and work are the lengths of the output and of the working space.

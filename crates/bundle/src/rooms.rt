@@ -3,8 +3,8 @@ use field::inner::size;
 ghost use mathlib.Core.Path.{_≡_};
 ghost use Prim.Native.Nat.{_≤_};
 ghost use Rattle.field.specs.Shape.{longest};
-ghost use Rattle.storage.specs.Blocks.{mostBlocks};
-ghost use Rattle.layout.specs.Rooms.{writeRoom, workRoom};
+ghost use Rattle.bundle_storage.specs.Blocks.{mostBlocks};
+ghost use Rattle.bundle_layout.specs.Rooms.{writeRoom, workRoom};
 
 // n and B are those of a good shape.
 pub fn write_room(n: usize, blocks: usize) -> usize

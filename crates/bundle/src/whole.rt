@@ -1,21 +1,21 @@
 // The whole file of a bundle whose layout is good, or nothing of it. No entry point and for this crate alone: the entry point has made the checks.
 use crate::answer::LengthAnswer;
+use bundle_gather::inner::start;
+use bundle_layout::inner::length_in;
+use bundle_read::inner::read_blocks;
 use cells::inner::clear;
 use cells::inner::clear_bytes;
 use field::Outcome;
-use gathering::inner::start;
-use layout::inner::length_in;
-use reader::inner::read_blocks;
 ghost use mathlib.Core.Path.{_≡_};
 ghost use mathlib.Core.List.{[]};
 ghost use Prim.Native.Nat.{_≤_};
 ghost use lib.ListN.{length};
 ghost use Rattle.field.specs.Leaves.{left};
 ghost use Rattle.field.specs.Refusals.{result};
-ghost use Rattle.layout.specs.Fields.{kIn, nIn, lengthIn, heldIn, blocksIn};
-ghost use Rattle.layout.specs.Layout.{layoutChecks};
-ghost use Rattle.layout.specs.Rooms.{workRoom};
-ghost use Rattle.reader.specs.Reading.{blocksAnswer};
+ghost use Rattle.bundle_layout.specs.Fields.{kIn, nIn, lengthIn, heldIn, blocksIn};
+ghost use Rattle.bundle_layout.specs.Layout.{layoutChecks};
+ghost use Rattle.bundle_layout.specs.Rooms.{workRoom};
+ghost use Rattle.bundle_read.specs.Reading.{blocksAnswer};
 ghost use Rattle.bundle.specs.Answers.{toldLength};
 ghost use Rattle.bundle.specs.Calls.{blocksLeave};
 

@@ -19,10 +19,10 @@ use Rattle.poly.proofs.Every.{every-replicate}
 use Rattle.poly.proofs.Symbols.{symbols-at, append-symbols}
 use Rattle.poly.proofs.Tab.{tab-length, tab-at}
 use Rattle.poly.proofs.Value.{value-append, value-zeros}
-use Rattle.halving.specs.Ready.{Ready}
-use Rattle.halving.specs.Transform.{transformOf}
-use Rattle.halving.proofs.Ready.{ready-of}
-use Rattle.halving.proofs.Theorems.{transform-is-value, transform-symbols}
+use Rattle.transform_halving.specs.Ready.{Ready}
+use Rattle.transform_halving.specs.Transform.{transformOf}
+use Rattle.transform_halving.proofs.Ready.{ready-of}
+use Rattle.transform_halving.proofs.Theorems.{transform-is-value, transform-symbols}
 use Rattle.code.specs.Code.{symbolOf, codeWord}
 use Rattle.code.specs.Codable.{Codable}
 use Rattle.code.specs.Rooms.{encodeRoom}

@@ -2,7 +2,7 @@
 use cells::inner::clear;
 use cells::inner::copy;
 use field::inner::size;
-use halving::inner::transform;
+use transform_halving::inner::transform;
 ghost use mathlib.Core.Path.{_≡_};
 ghost use mathlib.Core.List.{_++_};
 ghost use Prim.Native.Nat.{_-_, _≤_};

@@ -1,8 +1,8 @@
-// Lists the bundle that comes on standard input. All that is decided stands in `listed`; here bytes are read and written. Reads and writes go by
+// Lists the bundle that comes on standard input. All that is decided stands in `listing_text`; here bytes are read and written. Reads and writes go by
 // parts of the buffers themselves, because the program may take 65,536 bytes in all and a copy would add to its stack.
 use libc::STDIN_FILENO;
 use libc::STDOUT_FILENO;
-use listed::inner::list;
+use listing_text::inner::list;
 ghost use Prim.Native.Nat.{_≤_};
 ghost use lib.ListN.{length};
 

@@ -26,13 +26,13 @@ use Rattle.code.specs.Repeats.{firstRepeat}
 use Rattle.code.specs.Rooms.{encodeRoom, decodeRoom}
 use Rattle.block.specs.Calls.{encodeLeaves, decodeLeaves}
 use Rattle.block.specs.Checks.{encodeChecks, decodeChecks}
-use Rattle.storage.specs.Blocks.{blocksOf, badBundleShape}
-use Rattle.layout.specs.Facts.{after}
-use Rattle.layout.specs.Fields.{kIn, nIn, lengthIn, heldIn, blocksIn}
-use Rattle.layout.specs.Layout.{layoutChecks}
-use Rattle.layout.specs.Rooms.{writeRoom, workRoom}
-use Rattle.reader.specs.Reading.{badWord, badTail, blockAnswer, blocksAnswer, decodedAt}
-use Rattle.reader.specs.Reading as Reading
+use Rattle.bundle_storage.specs.Blocks.{blocksOf, badBundleShape}
+use Rattle.bundle_layout.specs.Facts.{after}
+use Rattle.bundle_layout.specs.Fields.{kIn, nIn, lengthIn, heldIn, blocksIn}
+use Rattle.bundle_layout.specs.Layout.{layoutChecks}
+use Rattle.bundle_layout.specs.Rooms.{writeRoom, workRoom}
+use Rattle.bundle_read.specs.Reading.{badWord, badTail, blockAnswer, blocksAnswer, decodedAt}
+use Rattle.bundle_read.specs.Reading as Reading
 use Rattle.bundle.specs.Calls.{writeLeaves, readLeaves}
 use Rattle.bundle.specs.Checks.{writeChecks, roomChecks, readChecks}
 use Rattle.bundle.proofs.Walking.{read-answer}

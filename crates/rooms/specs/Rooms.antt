@@ -7,11 +7,11 @@ use Rattle.field.specs.Shape.{badShape}
 use Rattle.field.specs.declared.refusal.Refusal.the-variants.{Shape}
 use Rattle.transform.specs.Lengths.{badLength}
 use Rattle.code.specs.Rooms.{encodeRoom, decodeRoom}
-use Rattle.storage.specs.Blocks.{blocksOf, badBundleShape}
-use Rattle.layout.specs.Facts.{after}
-use Rattle.layout.specs.Fields.{nIn, lengthIn}
-use Rattle.layout.specs.Layout.{layoutChecks}
-use Rattle.layout.specs.Rooms.{writeRoom, workRoom}
+use Rattle.bundle_storage.specs.Blocks.{blocksOf, badBundleShape}
+use Rattle.bundle_layout.specs.Facts.{after}
+use Rattle.bundle_layout.specs.Fields.{nIn, lengthIn}
+use Rattle.bundle_layout.specs.Layout.{layoutChecks}
+use Rattle.bundle_layout.specs.Rooms.{writeRoom, workRoom}
 use Rattle.rooms.specs.declared.answer.RoomAnswer.{RoomAnswer}
 use Rattle.rooms.specs.declared.answer.RoomAnswer.the-variants as R
 

@@ -10,18 +10,18 @@ use Rattle.field.specs.declared.refusal.Outcome.{Outcome}
 use Rattle.field.specs.declared.refusal.Refusal.{Refusal}
 use Rattle.field.specs.declared.refusal.Refusal.the-variants.{Shape}
 use Rattle.transform.specs.Lengths.{badLength}
-use Rattle.layout.specs.Facts.{toldFacts, toldEntry}
-use Rattle.layout.specs.declared.facts.Entry.{Entry}
-use Rattle.layout.specs.declared.facts.EntryAnswer.the-variants as E
-use Rattle.layout.specs.declared.facts.Facts.{Facts}
-use Rattle.layout.specs.declared.facts.FactsAnswer.the-variants as F
+use Rattle.bundle_layout.specs.Facts.{toldFacts, toldEntry}
+use Rattle.bundle_layout.specs.declared.facts.Entry.{Entry}
+use Rattle.bundle_layout.specs.declared.facts.EntryAnswer.the-variants as E
+use Rattle.bundle_layout.specs.declared.facts.Facts.{Facts}
+use Rattle.bundle_layout.specs.declared.facts.FactsAnswer.the-variants as F
 use Rattle.bundle.specs.Answers.{toldLength}
 use Rattle.bundle.specs.declared.answer.LengthAnswer.{LengthAnswer}
 use Rattle.rooms.specs.Rooms.{toldRoom, transformRoomAnswer}
 use Rattle.rooms.specs.declared.answer.Room.{Room}
 use Rattle.rooms.specs.declared.answer.RoomAnswer.{RoomAnswer}
 use Rattle.rooms.specs.declared.answer.RoomAnswer.the-variants as R
-use Rattle.telling.specs.Telling.{Returned, status-number, returned}
+use Rattle.answers.specs.Telling.{Returned, status-number, returned}
 use Rattle.sulmirejo.specs.Face.{returnedNumber, with-point, pointReturned, with-lists, listsReturned, listsReturnedNumber, with-facts, factsReturned, with-entry, entryReturned, RoomReturned, with-room, roomReturned}
 
 pub point-found : (a : Answer) (before v s p : ℕ) → result (v ∷ []) ≡ a → status-number s p ≡ returned (result [])

@@ -4,7 +4,7 @@ use Prim.Native.Nat.{ℕ}
 use lib.ListN.{getD}
 use Rattle.field.specs.Leaves.{Leaves}
 use Rattle.field.specs.Refusals.{Answer, result, refusal}
-use Rattle.telling.specs.Telling.{Returned, status-number, returned}
+use Rattle.answers.specs.Telling.{Returned, status-number, returned}
 
 -- where the result is one number, `number` takes it
 abbrev pub returnedNumber : Answer → Returned

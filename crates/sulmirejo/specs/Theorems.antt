@@ -4,10 +4,10 @@ use mathlib.Core.List.{List}
 use Prim.Native.Nat.{ℕ}
 use Rattle.field.specs.Leaves.{Leaves}
 use Rattle.field.specs.Refusals.{Answer}
-use Rattle.numbers.specs.Points.{pointAnswer}
+use Rattle.field_calls.specs.Points.{pointAnswer}
 use Rattle.transform.specs.Calls.{transformLeaves, inverseLeaves}
 use Rattle.block.specs.Calls.{encodeLeaves, decodeLeaves}
-use Rattle.layout.specs.Facts.{factsAnswer, entryAnswer}
+use Rattle.bundle_layout.specs.Facts.{factsAnswer, entryAnswer}
 use Rattle.bundle.specs.Calls.{writeLeaves, readLeaves}
 use Rattle.rooms.specs.Rooms.{transformRoomAnswer, encodeRoomAnswer, decodeRoomAnswer, writeRoomAnswer, readRoomAnswer}
 use Rattle.sulmirejo.specs.Face.{PointReturned, pointReturned, ListsReturned, listsReturned, listsReturnedNumber, FactsReturned, factsReturned, EntryReturned, entryReturned, RoomReturned, roomReturned}

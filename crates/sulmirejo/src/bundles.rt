@@ -1,14 +1,14 @@
 // The part of the face that has to do with bundles: the writer, the reader, and what a bundle's header and table say.
+use answers::tell;
 use bundle::LengthAnswer;
+use bundle_layout::EntryAnswer;
+use bundle_layout::FactsAnswer;
 use field::Outcome;
-use layout::EntryAnswer;
-use layout::FactsAnswer;
-use telling::tell;
 ghost use mathlib.Core.Path.{_≡_};
-ghost use Rattle.layout.specs.Facts.{factsAnswer, entryAnswer};
+ghost use Rattle.bundle_layout.specs.Facts.{factsAnswer, entryAnswer};
 ghost use Rattle.bundle.specs.Answers.{toldLength};
 ghost use Rattle.bundle.specs.Calls.{writeLeaves, readLeaves};
-ghost use Rattle.telling.specs.Telling.{status-number};
+ghost use Rattle.answers.specs.Telling.{status-number};
 ghost use Rattle.sulmirejo.specs.Face.{returnedNumber, with-lists, listsReturnedNumber, with-facts, factsReturned, with-entry, entryReturned};
 
 // 0 or the refusal's number; the length or the place goes to number.
@@ -65,7 +65,7 @@ pub extern "C" fn sulmirejo_facts(
 ) -> u32
     ensures { λ r. ⌜ with-facts (status-number r (now (number .exit))) (now (k .exit)) (now (n .exit)) (now (length .exit)) (now (held .exit)) (now (blocks .exit)) ≡ factsReturned (factsAnswer (now (bundle .entry))) (now (k .entry)) (now (n .entry)) (now (length .entry)) (now (held .entry)) (now (blocks .entry)) ⌝ }
 {
-    match layout::facts_of(bundle) {
+    match bundle_layout::facts_of(bundle) {
         FactsAnswer::Facts(facts) => {
             *k = facts.k;
             *n = facts.n;
@@ -90,7 +90,7 @@ pub extern "C" fn sulmirejo_entry(
 ) -> u32
     ensures { λ r. ⌜ with-entry (status-number r (now (number .exit))) (now (position .exit)) (now (offset .exit)) (now (count .exit)) ≡ entryReturned (entryAnswer (now (bundle .entry)) index) (now (position .entry)) (now (offset .entry)) (now (count .entry)) ⌝ }
 {
-    match layout::entry_of(bundle, index) {
+    match bundle_layout::entry_of(bundle, index) {
         EntryAnswer::Entry(entry) => {
             *position = entry.position;
             *offset = entry.offset;

@@ -3,15 +3,15 @@
 mod bundles;
 mod room;
 
+use answers::tell;
 use field::Outcome;
 use field::Position;
-use numbers::PointAnswer;
-use telling::tell;
+use field_calls::PointAnswer;
 ghost use mathlib.Core.Path.{_≡_};
-ghost use Rattle.numbers.specs.Points.{pointAnswer};
+ghost use Rattle.field_calls.specs.Points.{pointAnswer};
 ghost use Rattle.transform.specs.Calls.{transformLeaves, inverseLeaves};
 ghost use Rattle.block.specs.Calls.{encodeLeaves, decodeLeaves};
-ghost use Rattle.telling.specs.Telling.{status-number};
+ghost use Rattle.answers.specs.Telling.{status-number};
 ghost use Rattle.sulmirejo.specs.Face.{with-point, pointReturned, with-lists, listsReturned};
 
 #[no_mangle]
@@ -23,7 +23,7 @@ pub extern "C" fn sulmirejo_point(
 ) -> u32
     ensures { λ r. ⌜ with-point (status-number r (now (number .exit))) (now (point .exit)) ≡ pointReturned (pointAnswer n position) (now (point .entry)) ⌝ }
 {
-    match numbers::point_at(n, Position(position)) {
+    match field_calls::point_at(n, Position(position)) {
         PointAnswer::Point(found) => {
             let value = found.0;
             *point = value;

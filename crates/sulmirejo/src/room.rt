@@ -1,10 +1,10 @@
 // The part of the face that tells how much room a call asks for.
+use answers::tell;
 use field::Outcome;
 use rooms::RoomAnswer;
-use telling::tell;
 ghost use mathlib.Core.Path.{_≡_};
 ghost use Rattle.rooms.specs.Rooms.{toldRoom, transformRoomAnswer, encodeRoomAnswer, decodeRoomAnswer, writeRoomAnswer, readRoomAnswer};
-ghost use Rattle.telling.specs.Telling.{status-number};
+ghost use Rattle.answers.specs.Telling.{status-number};
 ghost use Rattle.sulmirejo.specs.Face.{with-room, roomReturned};
 
 // The room goes to out and work where there is one.

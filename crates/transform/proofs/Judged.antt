@@ -16,7 +16,7 @@ use Rattle.field.proofs.Checks.{passed, or-false}
 use Rattle.field.proofs.Values.{all-symbols}
 use Rattle.transform.specs.Calls.{judged}
 use Rattle.transform.specs.Lengths.{badLength}
-use Rattle.halving.specs.Ready.{Ready}
+use Rattle.transform_halving.specs.Ready.{Ready}
 
 pub good-size : (n : ℕ) → badLength n ≡ false → n ≡ sizeOf n
 unfolding badLength

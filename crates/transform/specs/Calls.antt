@@ -9,7 +9,7 @@ use Rattle.field.specs.Refusals.{Answer, result, refuseIf}
 use Rattle.field.specs.Values.{refuseAbove}
 use Rattle.field.specs.declared.refusal.Refusal.the-variants.{Shape, Room}
 use Rattle.transform.specs.Lengths.{badLength}
-use Rattle.halving.specs.Transform.{transformOf, inverseOf}
+use Rattle.transform_halving.specs.Transform.{transformOf, inverseOf}
 
 -- the checks, in the order of the numbers: SHAPE, ROOM, VALUE
 unfoldable pub judged : List ℕ → ℕ → Answer

@@ -2,12 +2,12 @@
 use crate::checks::judge;
 use cells::inner::clear;
 use field::Outcome;
-use halving::inner;
+use transform_halving::inner;
 ghost use mathlib.Core.Path.{_≡_};
 ghost use Rattle.field.specs.Leaves.{left};
 ghost use Rattle.field.specs.Refusals.{toldOutcome};
 ghost use Rattle.transform.specs.Calls.{oneOf, callLeaves, transformLeaves, inverseLeaves};
-ghost use Rattle.halving.specs.Ready.{Ready};
+ghost use Rattle.transform_halving.specs.Ready.{Ready};
 
 // The transform, or the inverse where back is asked.
 fn one_of(back: bool, list: &mut [u32])

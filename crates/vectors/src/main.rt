@@ -39,7 +39,7 @@ fn operands() {
 fn roots() {
     for level in 0..17 {
         let root = inner::root(level);
-        show::root(level, root, numbers::product(root, root));
+        show::root(level, root, field_calls::product(root, root));
     }
 }
 
@@ -67,25 +67,25 @@ fn points() {
 }
 
 fn sum(a: u32, b: u32) {
-    show::operation(a, b" + ", b, numbers::sum(a, b));
+    show::operation(a, b" + ", b, field_calls::sum(a, b));
 }
 
 fn difference(a: u32, b: u32) {
-    show::operation(a, b" - ", b, numbers::difference(a, b));
+    show::operation(a, b" - ", b, field_calls::difference(a, b));
 }
 
 fn product(a: u32, b: u32) {
-    show::operation(a, b" * ", b, numbers::product(a, b));
+    show::operation(a, b" * ", b, field_calls::product(a, b));
 }
 
 fn power(x: u32, n: u32) {
-    show::operation(x, b" ^ ", n, numbers::power(x, n));
+    show::operation(x, b" ^ ", n, field_calls::power(x, n));
 }
 
 fn inverse(x: u32) {
-    show::inverse(x, numbers::inverse(x));
+    show::inverse(x, field_calls::inverse(x));
 }
 
 fn point(n: usize, i: usize) {
-    show::point(n, i, numbers::point_at(n, Position(i)));
+    show::point(n, i, field_calls::point_at(n, Position(i)));
 }

@@ -1,8 +1,8 @@
 // One line for each case.
 use field::Refusal;
+use field_calls::PointAnswer;
+use field_calls::SymbolAnswer;
 use libc::STDOUT_FILENO;
-use numbers::PointAnswer;
-use numbers::SymbolAnswer;
 
 fn text(bytes: &[u8]) {
     io::write_all(STDOUT_FILENO, bytes);
@@ -14,9 +14,9 @@ fn number(n: u64) {
 
 fn refusal(refused: Refusal) {
     text(b"REFUSED ");
-    number(telling::number(refused) as u64);
+    number(answers::number(refused) as u64);
     text(b" ");
-    number(telling::place(refused) as u64);
+    number(answers::place(refused) as u64);
 }
 
 fn symbol(answer: SymbolAnswer) {

@@ -1,9 +1,9 @@
 -- `listing::main` meets its contract: the buffers have the sizes that the work asks for, and the text lies inside the output.
 -- Assumes nothing.
 use borrow.Author.Needs.{needs}
-use Rattle.listed.specs.Answers.{mostN}
-use Rattle.listed.specs.Calls.{textRoom}
-use Rattle.listed.proofs.Answering.{text-inside}
+use Rattle.listing_text.specs.Answers.{mostN}
+use Rattle.listing_text.specs.Calls.{textRoom}
+use Rattle.listing_text.proofs.Answering.{text-inside}
 use Rattle.listing.proofs.main.Statement.{statement}
 use Rattle.listing.proofs.main.Tie as tie
 

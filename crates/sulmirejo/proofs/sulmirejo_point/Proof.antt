@@ -2,7 +2,7 @@
 -- Assumes nothing.
 use mathlib.Core.Path.{sym, ap, _∙_}
 use borrow.Author.Needs.{needs}
-use Rattle.numbers.specs.Points.{toldPoint}
+use Rattle.field_calls.specs.Points.{toldPoint}
 use Rattle.sulmirejo.proofs.Returned.{point-found, point-refused}
 use Rattle.sulmirejo.proofs.sulmirejo_point.Statement.{statement}
 use Rattle.sulmirejo.proofs.sulmirejo_point.Tie as tie

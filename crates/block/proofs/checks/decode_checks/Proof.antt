@@ -21,7 +21,7 @@ use Rattle.code.specs.Held.{held}
 use Rattle.code.specs.Positions.{Inside, firstOutside}
 use Rattle.code.specs.Repeats.{firstRepeat}
 use Rattle.code.specs.Rooms.{decodeRoom}
-use Rattle.positions.proofs.Outside.{outside-none}
+use Rattle.code_positions.proofs.Outside.{outside-none}
 use Rattle.block.proofs.checks.decode_checks.Statement.{statement}
 use Rattle.block.proofs.checks.decode_checks.Tie as tie
 

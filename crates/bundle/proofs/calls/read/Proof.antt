@@ -8,11 +8,11 @@ use borrow.Author.Needs.{needs}
 use lib.ListN.{length}
 use lib.Seq.{length-front}
 use Rattle.field.proofs.Leaves.{told-done, told-refused, leaves-done, leaves-refused, lent-length}
-use Rattle.layout.specs.Fields.{blocksIn}
-use Rattle.layout.proofs.Passing.{header-inside}
+use Rattle.bundle_layout.specs.Fields.{blocksIn}
+use Rattle.bundle_layout.proofs.Passing.{header-inside}
 use Rattle.bundle.specs.Checks.{readChecks}
-use Rattle.reader.specs.Reading.{blocksAnswer}
-use Rattle.layout.specs.Rooms.{workRoom}
+use Rattle.bundle_read.specs.Reading.{blocksAnswer}
+use Rattle.bundle_layout.specs.Rooms.{workRoom}
 use Rattle.bundle.proofs.Passing.{read-passed}
 use Rattle.bundle.proofs.ReadLeaving.{blocks-whole}
 use Rattle.bundle.proofs.calls.read.Statement.{statement}

@@ -12,7 +12,7 @@ use Rattle.field.specs.Leaves.{left, written, zeroed}
 use Rattle.field.specs.Refusals.{result}
 use Rattle.field.proofs.Leaves.{told-done, told-refused, leaves-done, leaves-refused, lent-length, zeroed-part}
 use Rattle.bundle.specs.Checks.{writeChecks}
-use Rattle.words.specs.File.{fileBundle}
+use Rattle.bundle_file.specs.File.{fileBundle}
 use Rattle.bundle.proofs.Passing.{write-passed}
 use Rattle.bundle.proofs.calls.write.Statement.{statement}
 use Rattle.bundle.proofs.calls.write.Tie as tie

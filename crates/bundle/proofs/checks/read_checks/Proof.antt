@@ -7,8 +7,8 @@ use borrow.Author.Needs.{needs}
 use Rattle.field.specs.Refusals.{Answer, result, refused}
 use Rattle.field.specs.declared.refusal.Refusal.{Refusal}
 use Rattle.field.proofs.Leaves.{told-done, told-refused}
-use Rattle.layout.specs.Facts.{after}
-use Rattle.layout.specs.Layout.{layoutChecks}
+use Rattle.bundle_layout.specs.Facts.{after}
+use Rattle.bundle_layout.specs.Layout.{layoutChecks}
 use Rattle.bundle.specs.Checks.{roomChecks, readChecks}
 use Rattle.bundle.proofs.checks.read_checks.Statement.{statement}
 use Rattle.bundle.proofs.checks.read_checks.Tie as tie

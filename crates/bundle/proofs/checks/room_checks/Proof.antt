@@ -10,10 +10,10 @@ use lib.Dec.{ltb}
 use Rattle.field.specs.Refusals.{result, refused}
 use Rattle.field.specs.declared.refusal.Refusal.the-variants.{Room, Few}
 use Rattle.field.proofs.Checks.{stops, goes-on}
-use Rattle.layout.specs.Fields.{kIn, nIn, lengthIn, heldIn}
-use Rattle.layout.proofs.Passing.{header-inside}
+use Rattle.bundle_layout.specs.Fields.{kIn, nIn, lengthIn, heldIn}
+use Rattle.bundle_layout.proofs.Passing.{header-inside}
 use Rattle.bundle.specs.Checks.{roomChecks}
-use Rattle.layout.specs.Rooms.{workRoom}
+use Rattle.bundle_layout.specs.Rooms.{workRoom}
 use Rattle.bundle.proofs.checks.room_checks.Statement.{statement}
 use Rattle.bundle.proofs.checks.room_checks.Tie as tie
 

@@ -9,10 +9,10 @@ use lib.Dec.{ltb}
 use Rattle.field.specs.Refusals.{result, refused}
 use Rattle.field.specs.declared.refusal.Refusal.the-variants.{Shape, Room}
 use Rattle.field.proofs.Checks.{stops, goes-on}
-use Rattle.storage.specs.Blocks.{blocksOf, badBundleShape}
-use Rattle.layout.proofs.Passing.{countable, measurable}
+use Rattle.bundle_storage.specs.Blocks.{blocksOf, badBundleShape}
+use Rattle.bundle_layout.proofs.Passing.{countable, measurable}
 use Rattle.bundle.specs.Checks.{writeChecks}
-use Rattle.layout.specs.Rooms.{writeRoom, workRoom}
+use Rattle.bundle_layout.specs.Rooms.{writeRoom, workRoom}
 use Rattle.bundle.proofs.checks.write_checks.Statement.{statement}
 use Rattle.bundle.proofs.checks.write_checks.Tie as tie
 

@@ -3,7 +3,7 @@
 use native.Mathlib.Omega.{arith}
 use borrow.Author.Needs.{needs}
 use Rattle.field.proofs.Size.{size-small}
-use Rattle.layout.specs.Rooms.{workRoom}
+use Rattle.bundle_layout.specs.Rooms.{workRoom}
 use Rattle.bundle.proofs.rooms.work_room.Statement.{statement}
 use Rattle.bundle.proofs.rooms.work_room.Tie as tie
 

@@ -4,9 +4,9 @@ use native.Mathlib.Nat.{mul-le-mul}
 use native.Mathlib.Omega.{arith}
 use borrow.Author.Needs.{needs}
 use Rattle.field.specs.Shape.{longest}
-use Rattle.storage.specs.Blocks.{mostBlocks}
-use Rattle.layout.specs.Shadows.{headerSize, entrySize, firstBody}
-use Rattle.layout.specs.Rooms.{writeRoom}
+use Rattle.bundle_storage.specs.Blocks.{mostBlocks}
+use Rattle.bundle_layout.specs.Shadows.{headerSize, entrySize, firstBody}
+use Rattle.bundle_layout.specs.Rooms.{writeRoom}
 use Rattle.bundle.proofs.rooms.write_room.Statement.{statement}
 use Rattle.bundle.proofs.rooms.write_room.Tie as tie
 

@@ -3,7 +3,7 @@
 use mathlib.Core.Path.{_∙_}
 use native.Mathlib.Nat.{le-of-eq}
 use borrow.Author.Needs.{needs}
-use Rattle.layout.proofs.Passing.{header-inside}
+use Rattle.bundle_layout.proofs.Passing.{header-inside}
 use Rattle.bundle.proofs.ReadLeaving.{leaves-file, leaves-refusal}
 use Rattle.bundle.proofs.whole.read_all.Statement.{statement}
 use Rattle.bundle.proofs.whole.read_all.Tie as tie

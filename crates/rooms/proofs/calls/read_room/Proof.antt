@@ -7,10 +7,10 @@ use borrow.Author.Needs.{needs}
 use Rattle.field.specs.Refusals.{result, refused}
 use Rattle.field.specs.declared.refusal.Refusal.{Refusal}
 use Rattle.field.proofs.Leaves.{told-done, told-refused}
-use Rattle.layout.specs.Fields.{nIn, lengthIn}
-use Rattle.layout.specs.Layout.{layoutChecks}
-use Rattle.layout.specs.Rooms.{workRoom}
-use Rattle.layout.proofs.Passing.{header-inside}
+use Rattle.bundle_layout.specs.Fields.{nIn, lengthIn}
+use Rattle.bundle_layout.specs.Layout.{layoutChecks}
+use Rattle.bundle_layout.specs.Rooms.{workRoom}
+use Rattle.bundle_layout.proofs.Passing.{header-inside}
 use Rattle.rooms.specs.Rooms.{readRoomAnswer}
 use Rattle.rooms.proofs.calls.read_room.Statement.{statement}
 use Rattle.rooms.proofs.calls.read_room.Tie as tie

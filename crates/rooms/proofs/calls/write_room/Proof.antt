@@ -4,8 +4,8 @@ use mathlib.Core.Path.{sym, ap, _∙_}
 use borrow.Author.Needs.{needs}
 use Rattle.field.specs.declared.refusal.Refusal.the-variants.{Shape}
 use Rattle.field.proofs.Checks.{stops}
-use Rattle.layout.specs.Rooms.{writeRoom}
-use Rattle.layout.proofs.Passing.{countable, measurable}
+use Rattle.bundle_layout.specs.Rooms.{writeRoom}
+use Rattle.bundle_layout.proofs.Passing.{countable, measurable}
 use Rattle.rooms.specs.Rooms.{writeRoomAnswer}
 use Rattle.rooms.proofs.Answering.{tells}
 use Rattle.rooms.proofs.calls.write_room.Statement.{statement}

@@ -2,7 +2,7 @@
 -- Assumes nothing.
 use mathlib.Core.Path.{sym, ap, _∙_}
 use borrow.Author.Needs.{needs}
-use Rattle.layout.specs.Facts.{toldEntry}
+use Rattle.bundle_layout.specs.Facts.{toldEntry}
 use Rattle.sulmirejo.proofs.Returned.{entry-found, entry-refused}
 use Rattle.sulmirejo.proofs.bundles.sulmirejo_entry.Statement.{statement}
 use Rattle.sulmirejo.proofs.bundles.sulmirejo_entry.Tie as tie

@@ -2,7 +2,7 @@
 -- Assumes nothing.
 use mathlib.Core.Path.{sym, ap, _∙_}
 use borrow.Author.Needs.{needs}
-use Rattle.layout.specs.Facts.{toldFacts}
+use Rattle.bundle_layout.specs.Facts.{toldFacts}
 use Rattle.sulmirejo.proofs.Returned.{facts-found, facts-refused}
 use Rattle.sulmirejo.proofs.bundles.sulmirejo_facts.Statement.{statement}
 use Rattle.sulmirejo.proofs.bundles.sulmirejo_facts.Tie as tie

@@ -1,0 +1,22 @@
+-- f at the points between those of the code word, from N·f·M there, and back to its coefficients.
+use mathlib.Core.List.{List}
+use Prim.Native.Nat.{ℕ, _-_, _*_, _<_}
+use lib.ListN.{getD}
+use Rattle.field.specs.Congruence.{_≈_}
+use Rattle.field.specs.Field.{difference, product, power}
+use Rattle.poly.specs.Products.{vanishing}
+use Rattle.poly.specs.Tab.{tab}
+use Rattle.poly.specs.Value.{value}
+use Rattle.decode_between.specs.Between.{psi, between, valuesBetween}
+
+-- 1 / (N·K·M(y_i)), for the K points y_i between those of the code word
+pub record Inverses (N K : ℕ) (zs inverses : List ℕ) : Type 0 where
+  pub at : (i : ℕ) → i < K → N * K * value (vanishing zs) (between N K i) * getD inverses i 0 ≈ 1
+
+-- the values of N·f·M at the points between, divided by N·K·M there
+unfoldable pub quotients : ℕ → ℕ → List ℕ → List ℕ → List ℕ
+quotients N K g inverses = tab K (λ i. product (getD (valuesBetween N K g) i 0) (getD inverses i 0))
+
+-- a coefficient of f(ψ·X) divided by its power of ψ: 1/ψ^i is -ψ^(N - i)
+unfoldable pub untwisted : ℕ → List ℕ → ℕ → ℕ
+untwisted N s i = difference 0 (product (getD s i 0) (power (psi N) (N - i)))

@@ -1,0 +1,31 @@
+-- What is proved of the definitions, as statements: proofs/Theorems.antt proves each under the same name in small letters. Each promise settles
+-- the answer.
+use mathlib.Core.Path.{_≡_}
+use Prim.Native.Nat.{ℕ}
+use Rattle.field.specs.Refusals.{Answer}
+use Rattle.field_calls.specs.Operations.{told, sumAnswer, differenceAnswer, productAnswer, powerAnswer, inverseAnswer}
+use Rattle.field_calls.specs.Points.{toldPoint, pointAnswer}
+use Rattle.field_calls.specs.declared.operations.SymbolAnswer.{SymbolAnswer}
+use Rattle.field_calls.specs.declared.points.PointAnswer.{PointAnswer}
+
+-- two answers that tell the same are equal
+abbrev pub Settled : Answer → Type 0
+Settled t = (r s : SymbolAnswer) → told r ≡ t → told s ≡ t → r ≡ s
+
+abbrev pub SumSettled : Type 0
+SumSettled = (a b : ℕ) → Settled (sumAnswer a b)
+
+abbrev pub DifferenceSettled : Type 0
+DifferenceSettled = (a b : ℕ) → Settled (differenceAnswer a b)
+
+abbrev pub ProductSettled : Type 0
+ProductSettled = (a b : ℕ) → Settled (productAnswer a b)
+
+abbrev pub PowerSettled : Type 0
+PowerSettled = (x e : ℕ) → Settled (powerAnswer x e)
+
+abbrev pub InverseSettled : Type 0
+InverseSettled = (x : ℕ) → Settled (inverseAnswer x)
+
+abbrev pub PointSettled : Type 0
+PointSettled = (n i : ℕ) (r s : PointAnswer) → toldPoint r ≡ pointAnswer n i → toldPoint s ≡ pointAnswer n i → r ≡ s

@@ -1,0 +1,21 @@
+-- Lists that are ready: 2 ^ k symbols for a k of the table of roots.
+-- Assumes nothing.
+use mathlib.Core.Path.{_≡_, sym, ap, _∙_}
+use mathlib.Core.List.{List}
+use Prim.Native.Nat.{ℕ, _^_, _≤_}
+use native.Mathlib.Omega.{arith}
+use lib.ListN.{length}
+use lib.Pow.{pow-mono}
+use Rattle.field.specs.Size.{levelOf, sizeOf}
+use Rattle.field.specs.Symbol.{Symbols}
+use Rattle.field.proofs.Size.{level-le, size-power, size-of-power}
+use Rattle.transform_halving.specs.Ready.{Ready}
+
+pub ready-of : (k : ℕ) → k ≤ 16 → (s : List ℕ) → length s ≡ 2 ^ k → Symbols s → Ready s
+ready-of k h s long small = record { size = long ∙ sym (ap sizeOf long ∙ size-of-power k h); symbols = small }
+
+pub ready-power : (s : List ℕ) → Ready s → length s ≡ 2 ^ levelOf (length s)
+ready-power s ready = ready .size ∙ size-power (length s)
+
+pub ready-short : (s : List ℕ) → Ready s → length s ≤ 65536
+ready-short s ready = omega (arith, ready-power s ready, pow-mono (level-le (length s)))

@@ -2,8 +2,8 @@
 -- Assumes nothing.
 use mathlib.Core.Path.{_≡_, ap₂}
 use Prim.Native.Nat.{ℕ}
-use Rattle.field.specs.Refusals.{refused, numberOf, placeOf}
-use Rattle.field.specs.declared.refusal.Refusal.{Refusal}
+use Rattle.answers.specs.Refusals.{refused, numberOf, placeOf}
+use Rattle.answers.specs.declared.refusal.Refusal.{Refusal}
 use Rattle.answers.specs.Telling.{status-number, returned}
 
 pub refused-returned : (x : Refusal) (s p : ℕ) → s ≡ numberOf x → p ≡ placeOf x → status-number s p ≡ returned (refused x)

@@ -1,2 +1,5 @@
+pub mod First
+pub mod Refusals
+pub mod Leaves
 pub mod Telling
 pub mod Theorems

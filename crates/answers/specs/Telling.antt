@@ -1,6 +1,6 @@
 -- An answer as a caller from C gets it: the returned status is 0 or the refusal's number, and `number` holds the refusal's place, else 0.
 use Prim.Native.Nat.{ℕ}
-use Rattle.field.specs.Refusals.{Answer, result, refusal}
+use Rattle.answers.specs.Refusals.{Answer, result, refusal}
 
 pub record Returned : Type 0 where
   pub status : ℕ

@@ -1,8 +1,10 @@
-// How an answer is told: a refusal by document 01's number and place, and both as a caller from C gets them.
-use field::Outcome;
-use field::Refusal;
+// The refusals that every crate above answers with, and how an answer is told: by document 01's number and place, and as a caller from C gets them.
+mod refusal;
+
+pub use refusal::Outcome;
+pub use refusal::Refusal;
 ghost use mathlib.Core.Path.{_≡_};
-ghost use Rattle.field.specs.Refusals.{numberOf, placeOf, toldOutcome};
+ghost use Rattle.answers.specs.Refusals.{numberOf, placeOf, toldOutcome};
 ghost use Rattle.answers.specs.Telling.{status-number, returned};
 
 pub fn number(refusal: Refusal) -> u32

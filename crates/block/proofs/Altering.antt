@@ -8,7 +8,7 @@ use native.Mathlib.Omega.{arith}
 use borrow.Author.Tests.{eqb-true, eq-eqb}
 use lib.Dec.{eqb}
 use lib.ListN.{length, getD}
-use Rattle.field.proofs.Shape.{shape-good}
+use Rattle.limits.proofs.Shape.{shape-good}
 use Rattle.poly.proofs.Sum.{total-ext, total-none, total-zero}
 use Rattle.code.specs.Altered.{alteredCount}
 use Rattle.code.specs.Code.{symbolOf}

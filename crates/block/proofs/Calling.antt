@@ -5,9 +5,9 @@ use mathlib.Core.List.{List, [], _++_}
 use mathlib.Core.Option.{Option, some, none}
 use Prim.Native.Nat.{ℕ, _-_, _≤_}
 use lib.ListN.{length, take, drop}
-use Rattle.field.specs.Leaves.{Leaves, left, written}
-use Rattle.field.specs.Refusals.{Answer, result}
-use Rattle.field.proofs.Leaves.{zeroed-again}
+use Rattle.answers.specs.Leaves.{Leaves, left, written}
+use Rattle.answers.specs.Refusals.{Answer, result}
+use Rattle.answers.proofs.Leaves.{zeroed-again}
 use Rattle.code.specs.Decoded.{decoded}
 use Rattle.code.specs.Rooms.{decodeRoom}
 

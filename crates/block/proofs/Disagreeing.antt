@@ -8,13 +8,13 @@ use Prim.Native.Nat.{ℕ}
 use borrow.Author.Tests.{eqb-false}
 use lib.Dec.{ltb, eqb}
 use lib.ListN.{length}
-use Rattle.field.specs.Leaves.{unlessRefused}
-use Rattle.field.specs.Refusals.{Answer, result, refusal, refused, refuseIf, numberOf}
-use Rattle.field.specs.Shape.{badShape}
-use Rattle.field.specs.Values.{firstAbove}
-use Rattle.field.specs.declared.refusal.Refusal.{Refusal}
-use Rattle.field.specs.declared.refusal.Refusal.the-variants.{Shape, Length, Room, Few, Position, Repeat, Value, Disagree}
-use Rattle.field.proofs.Refusals.{result-no-refusal}
+use Rattle.answers.specs.Leaves.{unlessRefused}
+use Rattle.answers.specs.Refusals.{Answer, result, refusal, refused, refuseIf, numberOf}
+use Rattle.limits.specs.Shape.{badShape}
+use Rattle.limits.specs.Values.{firstAbove}
+use Rattle.answers.specs.declared.refusal.Refusal.{Refusal}
+use Rattle.answers.specs.declared.refusal.Refusal.the-variants.{Shape, Length, Room, Few, Position, Repeat, Value, Disagree}
+use Rattle.answers.proofs.Refusals.{result-no-refusal}
 use Rattle.code.specs.Decoded.{decoded}
 use Rattle.block.specs.Checks.{decodeChecks}
 use Rattle.code.specs.Held.{held}

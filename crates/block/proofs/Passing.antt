@@ -8,12 +8,12 @@ use native.Mathlib.Nat.{le-of-eq}
 use borrow.Author.Tests.{ltb-false, eqb-true, not-false, le-ltb, eq-eqb}
 use lib.Dec.{ltb, eqb}
 use lib.ListN.{length}
-use Rattle.field.specs.Refusals.{result}
-use Rattle.field.specs.Shape.{badShape}
-use Rattle.field.specs.Values.{firstAbove}
-use Rattle.field.specs.declared.refusal.Refusal.the-variants.{Shape, Length, Room, Few, Position, Repeat, Value}
-use Rattle.field.proofs.Checks.{passed, or-false}
-use Rattle.field.proofs.Values.{all-symbols, none-above}
+use Rattle.answers.specs.Refusals.{result}
+use Rattle.limits.specs.Shape.{badShape}
+use Rattle.limits.specs.Values.{firstAbove}
+use Rattle.answers.specs.declared.refusal.Refusal.the-variants.{Shape, Length, Room, Few, Position, Repeat, Value}
+use Rattle.answers.proofs.Checks.{passed, or-false}
+use Rattle.limits.proofs.Values.{all-symbols, none-above}
 use Rattle.block.specs.Checks.{encodeChecks, decodeChecks}
 use Rattle.code.specs.Held.{held}
 use Rattle.code.specs.Positions.{firstOutside}

@@ -10,17 +10,17 @@ use native.Mathlib.Omega.{arith}
 use lib.Dec.{lit<, lit≤}
 use lib.ListN.{length, getD}
 use Rattle.field.specs.Field.{power}
-use Rattle.field.specs.First.{first}
-use Rattle.field.specs.Leaves.{Leaves}
+use Rattle.answers.specs.First.{first}
+use Rattle.answers.specs.Leaves.{Leaves}
 use Rattle.field.specs.Points.{rootOf, pointOf}
-use Rattle.field.specs.Refusals.{result, refused}
+use Rattle.answers.specs.Refusals.{result, refused}
 use Rattle.field.specs.Roots.{roots, root}
-use Rattle.field.specs.Shape.{longest, badShape}
+use Rattle.limits.specs.Shape.{longest, badShape}
 use Rattle.field.specs.Size.{levelOf, sizeOf}
-use Rattle.field.specs.Values.{firstAbove}
-use Rattle.field.specs.declared.refusal.Refusal.the-variants.{Disagree}
-use Rattle.field.proofs.Leaves.{leaves-done, settled}
-use Rattle.field.proofs.Values.{all-symbols}
+use Rattle.limits.specs.Values.{firstAbove}
+use Rattle.answers.specs.declared.refusal.Refusal.the-variants.{Disagree}
+use Rattle.answers.proofs.Leaves.{leaves-done, settled}
+use Rattle.limits.proofs.Values.{all-symbols}
 use Rattle.poly.specs.Sum.{total}
 use Rattle.poly.specs.Tab.{tab}
 use Rattle.poly.specs.Value.{value}

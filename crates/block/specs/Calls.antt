@@ -2,8 +2,8 @@
 use mathlib.Core.List.{List, []}
 use Prim.Native.Nat.{ℕ}
 use lib.ListN.{length}
-use Rattle.field.specs.Leaves.{Leaves, left, unlessRefused, written, zeroed}
-use Rattle.field.specs.Refusals.{result}
+use Rattle.answers.specs.Leaves.{Leaves, left, unlessRefused, written, zeroed}
+use Rattle.answers.specs.Refusals.{result}
 use Rattle.block.specs.Checks.{encodeChecks, decodeChecks}
 use Rattle.code.specs.Code.{codeWord}
 use Rattle.code.specs.Decoded.{decoded}

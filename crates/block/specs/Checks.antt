@@ -4,10 +4,10 @@ use mathlib.Core.List.{List, []}
 use Prim.Native.Nat.{ℕ}
 use lib.Dec.{ltb, eqb}
 use lib.ListN.{length}
-use Rattle.field.specs.Refusals.{Answer, result, refuseIf}
-use Rattle.field.specs.Shape.{badShape}
-use Rattle.field.specs.Values.{refuseAbove}
-use Rattle.field.specs.declared.refusal.Refusal.the-variants.{Shape, Length, Room, Few, Position, Repeat}
+use Rattle.answers.specs.Refusals.{Answer, result, refuseIf}
+use Rattle.limits.specs.Shape.{badShape}
+use Rattle.limits.specs.Values.{refuseAbove}
+use Rattle.answers.specs.declared.refusal.Refusal.the-variants.{Shape, Length, Room, Few, Position, Repeat}
 use Rattle.code.specs.Held.{held, heldCount}
 use Rattle.code.specs.Positions.{firstOutside}
 use Rattle.code.specs.Repeats.{firstRepeat}

@@ -6,11 +6,11 @@ use mathlib.Core.Logic.{_⊎_, _↔_}
 use mathlib.Core.Option.{some, none}
 use Prim.Native.Nat.{ℕ, _+_, _<_, _≤_}
 use lib.ListN.{length, getD}
-use Rattle.field.specs.Leaves.{Settled, left, written, zeroed}
-use Rattle.field.specs.Refusals.{result, refused}
-use Rattle.field.specs.Shape.{longest, badShape}
+use Rattle.answers.specs.Leaves.{Settled, left, written, zeroed}
+use Rattle.answers.specs.Refusals.{result, refused}
+use Rattle.limits.specs.Shape.{longest, badShape}
 use Rattle.field.specs.Symbol.{Symbols}
-use Rattle.field.specs.declared.refusal.Refusal.the-variants.{Disagree}
+use Rattle.answers.specs.declared.refusal.Refusal.the-variants.{Disagree}
 use Rattle.poly.specs.Tab.{tab}
 use Rattle.code.specs.Altered.{alteredCount}
 use Rattle.block.specs.Calls.{encodeLeaves, decodeLeaves}

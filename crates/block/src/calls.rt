@@ -3,12 +3,12 @@
 use crate::checks;
 use crate::rooms::decode_room;
 use crate::rooms::encode_room;
+use answers::Outcome;
 use code::inner::spread;
 use decode_block::inner::recover;
-use field::Outcome;
 ghost use mathlib.Core.Path.{_≡_};
-ghost use Rattle.field.specs.Leaves.{left};
-ghost use Rattle.field.specs.Refusals.{toldOutcome};
+ghost use Rattle.answers.specs.Leaves.{left};
+ghost use Rattle.answers.specs.Refusals.{toldOutcome};
 ghost use Rattle.block.specs.Calls.{encodeLeaves, decodeLeaves};
 
 // The code word e_i = s(r^i) of the message, for i = 0 .. n - 1, at the output's front.

@@ -1,15 +1,15 @@
 // The checks of encode and decode, in document 01's order. They write nothing.
 use crate::rooms::decode_room;
 use crate::rooms::encode_room;
+use answers::Outcome;
+use answers::Refusal;
 use code_positions::inner::first_outside;
 use code_positions::inner::first_repeat;
-use field::Outcome;
-use field::Refusal;
-use field::inner::bad_shape;
-use field::inner::first_above;
-use field::inner::too_short;
+use limits::bad_shape;
+use limits::first_above;
+use limits::too_short;
 ghost use mathlib.Core.Path.{_≡_};
-ghost use Rattle.field.specs.Refusals.{toldOutcome};
+ghost use Rattle.answers.specs.Refusals.{toldOutcome};
 ghost use Rattle.block.specs.Checks.{encodeChecks, decodeChecks};
 
 // out and work are the lengths of the output and of the working space.

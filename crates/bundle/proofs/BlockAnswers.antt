@@ -5,9 +5,9 @@ use mathlib.Core.Bool.{false}
 use mathlib.Core.List.{List, []}
 use mathlib.Core.Option.{Option, some, none}
 use Prim.Native.Nat.{ℕ}
-use Rattle.field.specs.Refusals.{result, refused}
-use Rattle.field.specs.declared.refusal.Refusal.the-variants.{Disagree, Word, Tail}
-use Rattle.field.proofs.Refusals.{result-no-refusal}
+use Rattle.answers.specs.Refusals.{result, refused}
+use Rattle.answers.specs.declared.refusal.Refusal.the-variants.{Disagree, Word, Tail}
+use Rattle.answers.proofs.Refusals.{result-no-refusal}
 use Rattle.block.proofs.Disagreeing.{Before, passing, before-if}
 use Rattle.bundle_layout.specs.Fields.{kIn, lengthIn}
 use Rattle.bundle_read.specs.Reading.{decodedAt, badWord, badTail, judged, blockAnswer}

@@ -9,14 +9,14 @@ use native.Mathlib.Omega.{arith}
 use lib.Dec.{lit<, lit≤}
 use lib.ListN.{length, getD, replicate, length-replicate}
 use Rattle.field.specs.Field.{power}
-use Rattle.field.specs.First.{first}
-use Rattle.field.specs.Leaves.{Leaves, left}
+use Rattle.answers.specs.First.{first}
+use Rattle.answers.specs.Leaves.{Leaves, left}
 use Rattle.field.specs.Points.{rootOf, pointOf}
-use Rattle.field.specs.Refusals.{result}
+use Rattle.answers.specs.Refusals.{result}
 use Rattle.field.specs.Roots.{roots, root}
-use Rattle.field.specs.Shape.{longest, badShape}
+use Rattle.limits.specs.Shape.{longest, badShape}
 use Rattle.field.specs.Size.{levelOf, sizeOf}
-use Rattle.field.proofs.Refusals.{result-no-refusal}
+use Rattle.answers.proofs.Refusals.{result-no-refusal}
 use Rattle.poly.specs.Tab.{tab}
 use Rattle.poly.specs.Value.{value}
 use Rattle.code.specs.Code.{symbolOf, codeWord}
@@ -25,7 +25,9 @@ use Rattle.code.specs.Message.{IsMessage}
 use Rattle.code.specs.Rooms.{encodeRoom, decodeRoom}
 use Rattle.block.specs.Theorems.{Encodes, Decodes}
 use Rattle.block.proofs.Theorems.{encodes-word, encode-decode}
-use Rattle.bundle_storage.specs.Blocks.{blocksOf, longestFile, mostBlocks, badBundleShape}
+use Rattle.bundle_storage.specs.Blocks.{mostBlocks}
+use Rattle.bundle_layout.specs.Blocks.{blocksOf}
+use Rattle.bundle_layout.specs.Shape.{longestFile, badBundleShape}
 use Rattle.bundle_storage.specs.Bytes.{Bytes, two, four, inBytes, twoAt}
 use Rattle.bundle_layout.specs.Fields.{lengthIn, entryAt, countIn}
 use Rattle.bundle_layout.specs.Held.{upTo}

@@ -6,11 +6,11 @@ use mathlib.Core.Logic.{inl, inr}
 use Prim.Native.Nat.{ℕ, _<_, zero-le}
 use native.Mathlib.Omega.{arith}
 use lib.ListN.{length}
-use Rattle.field.specs.Leaves.{Leaves}
-use Rattle.field.specs.Refusals.{refused}
-use Rattle.field.specs.declared.refusal.Refusal.the-variants.{Disagree}
-use Rattle.field.proofs.Leaves.{leaves-done}
-use Rattle.field.proofs.Refusals.{result-no-refusal}
+use Rattle.answers.specs.Leaves.{Leaves}
+use Rattle.answers.specs.Refusals.{refused}
+use Rattle.answers.specs.declared.refusal.Refusal.the-variants.{Disagree}
+use Rattle.answers.proofs.Leaves.{leaves-done}
+use Rattle.answers.proofs.Refusals.{result-no-refusal}
 use Rattle.code.specs.Altered.{alteredCount}
 use Rattle.block.proofs.Theorems.{decodes-none}
 use Rattle.bundle_layout.specs.Fields.{kIn, nIn, heldIn, blocksIn}

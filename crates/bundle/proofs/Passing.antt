@@ -6,13 +6,13 @@ use mathlib.Core.List.{List, []}
 use Prim.Native.Nat.{ℕ, _≤_}
 use borrow.Author.Tests.{le-ltb, ltb-false, eqb-false}
 use lib.Dec.{ltb}
-use Rattle.field.specs.Refusals.{Answer, result, refused}
-use Rattle.field.specs.declared.refusal.Refusal.the-variants.{Shape, Room, Few, Disagree, Form}
-use Rattle.field.proofs.Checks.{passed, or-false}
-use Rattle.field.proofs.Refusals.{result-no-refusal}
+use Rattle.answers.specs.Refusals.{Answer, result, refused, after}
+use Rattle.answers.specs.declared.refusal.Refusal.the-variants.{Shape, Room, Few, Disagree, Form}
+use Rattle.answers.proofs.Checks.{passed, or-false}
+use Rattle.answers.proofs.Refusals.{result-no-refusal}
 use Rattle.block.proofs.Disagreeing.{Before, passing, other, before-if}
-use Rattle.bundle_storage.specs.Blocks.{blocksOf, badBundleShape}
-use Rattle.bundle_layout.specs.Facts.{after}
+use Rattle.bundle_layout.specs.Blocks.{blocksOf}
+use Rattle.bundle_layout.specs.Shape.{badBundleShape}
 use Rattle.bundle_layout.specs.Fields.{kIn, nIn, lengthIn, heldIn}
 use Rattle.bundle_layout.specs.Layout.{badFront, restGood, layoutChecks}
 use Rattle.bundle.specs.Checks.{writeChecks, roomChecks, readChecks}

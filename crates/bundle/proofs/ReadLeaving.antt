@@ -7,13 +7,12 @@ use native.Mathlib.Nat.{min-le-left}
 use native.Mathlib.Omega.{arith}
 use lib.ListN.{length, take, drop, replicate, length-take, length-replicate, take-append-drop, drop-of-length-le}
 use lib.Seq.{length-take-le, take-all, drop-append-le}
-use Rattle.field.specs.Leaves.{Leaves, left, written, zeroed}
-use Rattle.field.specs.Refusals.{Answer, result, refusal, refused, toldOutcome}
-use Rattle.field.specs.declared.refusal.Outcome.{Outcome}
-use Rattle.field.specs.declared.refusal.Outcome.the-variants.{Done, Refused}
-use Rattle.field.specs.declared.refusal.Refusal.{Refusal}
-use Rattle.field.proofs.Leaves.{zeroed-all, zeroed-again}
-use Rattle.bundle_layout.specs.Facts.{after}
+use Rattle.answers.specs.Leaves.{Leaves, left, written, zeroed}
+use Rattle.answers.specs.Refusals.{Answer, result, refusal, refused, toldOutcome, after}
+use Rattle.answers.specs.declared.refusal.Outcome.{Outcome}
+use Rattle.answers.specs.declared.refusal.Outcome.the-variants.{Done, Refused}
+use Rattle.answers.specs.declared.refusal.Refusal.{Refusal}
+use Rattle.answers.proofs.Leaves.{zeroed-all, zeroed-again}
 use Rattle.bundle_layout.specs.Fields.{nIn, lengthIn, blocksIn}
 use Rattle.bundle.specs.Calls.{blocksLeave}
 use Rattle.bundle_read.specs.Reading.{blocksAnswer, bytesBefore, fileIn}

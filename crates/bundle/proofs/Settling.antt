@@ -1,8 +1,8 @@
 -- What the writer or the reader leaves is settled by an equation of it.
 -- Assumes nothing.
 use mathlib.Core.Path.{_≡_, sym, ap, _∙_}
-use Rattle.field.specs.Leaves.{Leaves}
-use Rattle.field.proofs.Refusals.{result-no-refusal, refusals-told}
+use Rattle.answers.specs.Leaves.{Leaves}
+use Rattle.answers.proofs.Refusals.{result-no-refusal, refusals-told}
 use Rattle.bundle.specs.Answers.{toldLength, Settled}
 use Rattle.bundle.specs.declared.answer.LengthAnswer.{LengthAnswer}
 use Rattle.bundle.specs.declared.answer.LengthAnswer.the-variants.{Length, Refused}

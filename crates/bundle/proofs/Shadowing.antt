@@ -9,12 +9,13 @@ use native.Mathlib.Omega.{arith}
 use borrow.Author.Tests.{leb-false}
 use lib.Dec.{leb}
 use lib.ListN.{length, getD}
-use Rattle.field.specs.First.{first}
-use Rattle.field.proofs.First.{first-before}
+use Rattle.answers.specs.First.{first}
+use Rattle.answers.proofs.First.{first-before}
 use Rattle.code.specs.Altered.{alteredCount}
 use Rattle.code.specs.Code.{symbolOf}
 use Rattle.block.proofs.Altering.{fits-none}
-use Rattle.bundle_storage.specs.Blocks.{blocksOf, badBundleShape}
+use Rattle.bundle_layout.specs.Blocks.{blocksOf}
+use Rattle.bundle_layout.specs.Shape.{badBundleShape}
 use Rattle.bundle_storage.specs.Bytes.{Bytes, two, four}
 use Rattle.bundle_layout.specs.Fields.{heldIn}
 use Rattle.bundle_layout.specs.Held.{AllStored, IsBundle}

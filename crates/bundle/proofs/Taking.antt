@@ -11,18 +11,18 @@ use borrow.Author.Tests.{ltb-true, ltb-false}
 use lib.Dec.{ltb}
 use lib.ListN.{length, take, replicate}
 use lib.Seq.{take-at}
-use Rattle.field.specs.First.{first}
-use Rattle.field.specs.Leaves.{left, written, zeroed}
-use Rattle.field.specs.Refusals.{result, refused}
-use Rattle.field.specs.declared.refusal.Refusal.the-variants.{Disagree}
-use Rattle.field.proofs.First.{first-before, first-holds}
+use Rattle.answers.specs.First.{first}
+use Rattle.answers.specs.Leaves.{left, written, zeroed}
+use Rattle.answers.specs.Refusals.{result, refused}
+use Rattle.answers.specs.declared.refusal.Refusal.the-variants.{Disagree}
+use Rattle.answers.proofs.First.{first-before, first-holds}
 use Rattle.poly.specs.Tab.{tab}
 use Rattle.poly.proofs.Tab.{tab-append}
 use Rattle.code.specs.Altered.{alteredCount}
 use Rattle.code.specs.Fits.{Fits}
 use Rattle.block.proofs.Altering.{none-fits, fits-none, few-altered}
 use Rattle.block.proofs.Theorems.{decodes-fitting, decodes-none}
-use Rattle.bundle_storage.specs.Blocks.{blocksOf}
+use Rattle.bundle_layout.specs.Blocks.{blocksOf}
 use Rattle.bundle_storage.specs.Bytes.{Bytes, inBytes, twoAt}
 use Rattle.bundle_layout.specs.Fields.{kIn, nIn, lengthIn, heldIn, blocksIn}
 use Rattle.bundle_layout.specs.Layout.{layoutChecks}

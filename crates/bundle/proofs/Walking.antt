@@ -7,12 +7,11 @@ use Prim.Native.Nat.{ℕ, zero, suc, _+_, _<_, _≤_}
 use native.Mathlib.Decide.{decLt}
 use native.Mathlib.Omega.{arith}
 use lib.ListN.{length}
-use Rattle.field.specs.Leaves.{unlessRefused}
-use Rattle.field.specs.Refusals.{Answer, result, refusal, refused}
-use Rattle.field.specs.declared.refusal.Refusal.the-variants.{Disagree}
-use Rattle.field.proofs.Leaves.{leaves-done}
-use Rattle.field.proofs.Refusals.{result-no-refusal}
-use Rattle.bundle_layout.specs.Facts.{after}
+use Rattle.answers.specs.Leaves.{unlessRefused}
+use Rattle.answers.specs.Refusals.{Answer, result, refusal, refused, after}
+use Rattle.answers.specs.declared.refusal.Refusal.the-variants.{Disagree}
+use Rattle.answers.proofs.Leaves.{leaves-done}
+use Rattle.answers.proofs.Refusals.{result-no-refusal}
 use Rattle.bundle_layout.specs.Fields.{lengthIn, blocksIn}
 use Rattle.bundle.specs.Calls.{blocksLeave, readLeaves}
 use Rattle.bundle.specs.Checks.{readChecks}

@@ -8,14 +8,14 @@ use native.Mathlib.Omega.{arith}
 use lib.Dec.{lit<, lit≤}
 use lib.ListN.{length}
 use Rattle.field.specs.Field.{power}
-use Rattle.field.specs.First.{first}
-use Rattle.field.specs.Leaves.{left, unlessRefused}
+use Rattle.answers.specs.First.{first}
+use Rattle.answers.specs.Leaves.{left, unlessRefused}
 use Rattle.field.specs.Points.{rootOf, pointOf}
-use Rattle.field.specs.Refusals.{Answer, result, refused}
+use Rattle.answers.specs.Refusals.{Answer, result, refused, after}
 use Rattle.field.specs.Roots.{roots, root}
-use Rattle.field.specs.Shape.{longest, badShape}
+use Rattle.limits.specs.Shape.{longest, badShape}
 use Rattle.field.specs.Size.{levelOf, sizeOf}
-use Rattle.field.specs.declared.refusal.Refusal.the-variants.{Tail, Form}
+use Rattle.answers.specs.declared.refusal.Refusal.the-variants.{Tail, Form}
 use Rattle.poly.specs.Sum.{total}
 use Rattle.poly.specs.Tab.{tab}
 use Rattle.poly.specs.Value.{value}
@@ -27,9 +27,10 @@ use Rattle.code.specs.Meeting.{polynomialOf}
 use Rattle.code.specs.Message.{IsMessage}
 use Rattle.block.proofs.Altering.{none-fits}
 use Rattle.block.proofs.Theorems.{decodes-fitting, worked-numbers}
-use Rattle.bundle_storage.specs.Blocks.{blocksOf, longestFile, mostBlocks, badBundleShape}
+use Rattle.bundle_storage.specs.Blocks.{mostBlocks}
+use Rattle.bundle_layout.specs.Blocks.{blocksOf}
+use Rattle.bundle_layout.specs.Shape.{longestFile, badBundleShape}
 use Rattle.bundle_storage.specs.Bytes.{Bytes, two, four, inBytes, twoAt, fourAt}
-use Rattle.bundle_layout.specs.Facts.{after}
 use Rattle.bundle_layout.specs.Fields.{kIn, nIn, lengthIn, heldIn, lastIn, blocksIn, entryAt, positionIn, countIn, offsetIn}
 use Rattle.bundle_layout.specs.Held.{upTo}
 use Rattle.bundle_layout.specs.Layout.{badFront, startOf, badEntry, restGood, layoutChecks}

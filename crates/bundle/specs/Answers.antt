@@ -2,8 +2,8 @@
 use mathlib.Core.Path.{_≡_}
 use mathlib.Core.List.{List, [], _∷_}
 use Prim.Native.Nat.{ℕ}
-use Rattle.field.specs.Leaves.{Leaves, left}
-use Rattle.field.specs.Refusals.{Answer, result, refused}
+use Rattle.answers.specs.Leaves.{Leaves, left}
+use Rattle.answers.specs.Refusals.{Answer, result, refused}
 use Rattle.bundle.specs.declared.answer.LengthAnswer.{LengthAnswer}
 use Rattle.bundle.specs.declared.answer.LengthAnswer.the-variants.{Length, Refused}
 

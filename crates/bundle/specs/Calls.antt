@@ -2,8 +2,8 @@
 use mathlib.Core.List.{List, [], _∷_}
 use Prim.Native.Nat.{ℕ}
 use lib.ListN.{length, replicate}
-use Rattle.field.specs.Leaves.{Leaves, left, unlessRefused, written, zeroed}
-use Rattle.field.specs.Refusals.{Answer, result, refusal}
+use Rattle.answers.specs.Leaves.{Leaves, left, unlessRefused, written, zeroed}
+use Rattle.answers.specs.Refusals.{Answer, result, refusal}
 use Rattle.bundle_layout.specs.Fields.{nIn, lengthIn, blocksIn}
 use Rattle.bundle.specs.Checks.{writeChecks, readChecks}
 use Rattle.bundle_file.specs.File.{fileBundle}

@@ -3,10 +3,10 @@ use mathlib.Core.Bool.{_||_}
 use mathlib.Core.List.{List, []}
 use Prim.Native.Nat.{ℕ}
 use lib.Dec.{ltb}
-use Rattle.field.specs.Refusals.{Answer, result, refuseIf}
-use Rattle.field.specs.declared.refusal.Refusal.the-variants.{Shape, Room, Few}
-use Rattle.bundle_storage.specs.Blocks.{blocksOf, badBundleShape}
-use Rattle.bundle_layout.specs.Facts.{after}
+use Rattle.answers.specs.Refusals.{Answer, result, refuseIf, after}
+use Rattle.answers.specs.declared.refusal.Refusal.the-variants.{Shape, Room, Few}
+use Rattle.bundle_layout.specs.Blocks.{blocksOf}
+use Rattle.bundle_layout.specs.Shape.{badBundleShape}
 use Rattle.bundle_layout.specs.Fields.{kIn, nIn, lengthIn, heldIn}
 use Rattle.bundle_layout.specs.Layout.{layoutChecks}
 use Rattle.bundle_layout.specs.Rooms.{writeRoom, workRoom}

@@ -5,10 +5,11 @@ use mathlib.Core.Bool.{false}
 use mathlib.Core.List.{List, [], _∷_}
 use Prim.Native.Nat.{ℕ, _<_, _≤_}
 use lib.ListN.{length}
-use Rattle.field.specs.Leaves.{Leaves}
-use Rattle.field.specs.Refusals.{result, refusal}
+use Rattle.answers.specs.Leaves.{Leaves}
+use Rattle.answers.specs.Refusals.{result, refusal}
 use Rattle.block.specs.Calls.{encodeLeaves, decodeLeaves}
-use Rattle.bundle_storage.specs.Blocks.{blocksOf, badBundleShape}
+use Rattle.bundle_layout.specs.Blocks.{blocksOf}
+use Rattle.bundle_layout.specs.Shape.{badBundleShape}
 use Rattle.bundle_storage.specs.Bytes.{Bytes}
 use Rattle.bundle_layout.specs.Fields.{lengthIn, countIn}
 use Rattle.bundle.specs.Calls.{writeLeaves, readLeaves}

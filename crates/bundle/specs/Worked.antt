@@ -3,9 +3,9 @@ use mathlib.Core.Path.{_≡_}
 use mathlib.Core.List.{List, [], _∷_, _++_}
 use Prim.Native.Nat.{ℕ}
 use lib.ListN.{set}
-use Rattle.field.specs.Leaves.{left}
-use Rattle.field.specs.Refusals.{refused}
-use Rattle.field.specs.declared.refusal.Refusal.the-variants.{Tail, Form}
+use Rattle.answers.specs.Leaves.{left}
+use Rattle.answers.specs.Refusals.{refused}
+use Rattle.answers.specs.declared.refusal.Refusal.the-variants.{Tail, Form}
 use Rattle.transform_halving.specs.Transform.{transformOf, inverseOf}
 use Rattle.block.specs.Theorems.{Encodes, Decodes, Disagrees}
 use Rattle.bundle_layout.specs.Fields.{blocksIn}

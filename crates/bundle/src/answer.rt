@@ -1,5 +1,5 @@
 // The answer of the writer and of the reader.
-use field::Refusal;
+use answers::Refusal;
 
 pub enum LengthAnswer {
     Length(usize),

@@ -5,12 +5,12 @@ use crate::checks::read_checks;
 use crate::checks::write_checks;
 use crate::rooms::work_room;
 use crate::whole::read_all;
+use answers::Outcome;
 use bundle_layout::inner::length_in;
 use bundle_layout::inner::n_in;
 use bundle_write::inner::write_all;
-use field::Outcome;
 ghost use mathlib.Core.Path.{_≡_};
-ghost use Rattle.field.specs.Leaves.{left};
+ghost use Rattle.answers.specs.Leaves.{left};
 ghost use Rattle.bundle.specs.Answers.{toldLength};
 ghost use Rattle.bundle.specs.Calls.{writeLeaves, readLeaves};
 

@@ -2,6 +2,8 @@
 // crate alone.
 use crate::rooms::work_room;
 use crate::rooms::write_room;
+use answers::Outcome;
+use answers::Refusal;
 use bundle_layout::inner::bad_bundle_shape;
 use bundle_layout::inner::blocks;
 use bundle_layout::inner::held_in;
@@ -9,12 +11,10 @@ use bundle_layout::inner::k_in;
 use bundle_layout::inner::layout_checks;
 use bundle_layout::inner::length_in;
 use bundle_layout::inner::n_in;
-use field::Outcome;
-use field::Refusal;
-use field::inner::too_short;
+use limits::too_short;
 ghost use mathlib.Core.Path.{_≡_};
 ghost use mathlib.Core.List.{[]};
-ghost use Rattle.field.specs.Refusals.{result, toldOutcome};
+ghost use Rattle.answers.specs.Refusals.{result, toldOutcome};
 ghost use Rattle.bundle_layout.specs.Layout.{layoutChecks};
 ghost use Rattle.bundle.specs.Checks.{writeChecks, roomChecks, readChecks};
 

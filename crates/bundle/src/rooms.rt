@@ -2,7 +2,7 @@
 use field::inner::size;
 ghost use mathlib.Core.Path.{_≡_};
 ghost use Prim.Native.Nat.{_≤_};
-ghost use Rattle.field.specs.Shape.{longest};
+ghost use Rattle.limits.specs.Shape.{longest};
 ghost use Rattle.bundle_storage.specs.Blocks.{mostBlocks};
 ghost use Rattle.bundle_layout.specs.Rooms.{writeRoom, workRoom};
 

@@ -1,17 +1,17 @@
 // The whole file of a bundle whose layout is good, or nothing of it. No entry point and for this crate alone: the entry point has made the checks.
 use crate::answer::LengthAnswer;
+use answers::Outcome;
 use bundle_gather::inner::start;
 use bundle_layout::inner::length_in;
 use bundle_read::inner::read_blocks;
 use cells::inner::clear;
 use cells::inner::clear_bytes;
-use field::Outcome;
 ghost use mathlib.Core.Path.{_≡_};
 ghost use mathlib.Core.List.{[]};
 ghost use Prim.Native.Nat.{_≤_};
 ghost use lib.ListN.{length};
-ghost use Rattle.field.specs.Leaves.{left};
-ghost use Rattle.field.specs.Refusals.{result};
+ghost use Rattle.answers.specs.Leaves.{left};
+ghost use Rattle.answers.specs.Refusals.{result};
 ghost use Rattle.bundle_layout.specs.Fields.{kIn, nIn, lengthIn, heldIn, blocksIn};
 ghost use Rattle.bundle_layout.specs.Layout.{layoutChecks};
 ghost use Rattle.bundle_layout.specs.Rooms.{workRoom};

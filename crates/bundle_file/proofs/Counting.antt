@@ -14,7 +14,7 @@ use Rattle.field.specs.Size.{sizeOf}
 use Rattle.field.proofs.Size.{size-enough}
 use Rattle.poly.proofs.Tab.{tab-at}
 use Rattle.code.specs.Code.{codeWord}
-use Rattle.bundle_storage.specs.Blocks.{badBundleShape}
+use Rattle.bundle_layout.specs.Shape.{badBundleShape}
 use Rattle.bundle_storage.specs.Storage.{overflows, countOf}
 use Rattle.bundle_layout.proofs.Holding.{limits}
 use Rattle.bundle_storage.proofs.RisingLaws.{none-found, found-none}

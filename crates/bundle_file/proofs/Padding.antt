@@ -11,9 +11,9 @@ use Rattle.poly.specs.Tab.{tab}
 use Rattle.poly.proofs.Symbols.{tab-symbols}
 use Rattle.poly.proofs.Tab.{tab-length, tab-at}
 use Rattle.code.specs.Message.{IsMessage}
-use Rattle.bundle_storage.specs.Blocks.{blocksOf}
+use Rattle.bundle_layout.specs.Blocks.{blocksOf}
 use Rattle.bundle_storage.specs.Bytes.{Bytes, two, inBytes, twoAt}
-use Rattle.bundle_storage.proofs.BlocksLaws.{blocks-hold}
+use Rattle.bundle_layout.proofs.BlocksLaws.{blocks-hold}
 use Rattle.bundle_storage.proofs.BytesLaws.{in-bytes-length, byte-at, two-lt, bytes-append}
 use Rattle.bundle_file.specs.File.{padded, messageAt}
 

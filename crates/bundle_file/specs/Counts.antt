@@ -5,7 +5,7 @@ use mathlib.Core.List.{List}
 use Prim.Native.Nat.{ℕ, _+_, _*_, _<_}
 use lib.Dec.{leb, eqb}
 use lib.ListN.{length, getD}
-use Rattle.field.specs.First.{first}
+use Rattle.answers.specs.First.{first}
 use Rattle.field.specs.Size.{sizeOf}
 use Rattle.bundle_storage.specs.Storage.{countOf}
 use Rattle.bundle_file.specs.File.{symbolAt}

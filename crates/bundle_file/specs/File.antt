@@ -6,7 +6,7 @@ use Prim.Native.Nat.{ℕ, _+_, _*_, _-_}
 use lib.ListN.{length, getD, replicate}
 use Rattle.poly.specs.Tab.{tab}
 use Rattle.code.specs.Code.{symbolOf}
-use Rattle.bundle_storage.specs.Blocks.{blocksOf}
+use Rattle.bundle_layout.specs.Blocks.{blocksOf}
 use Rattle.bundle_storage.specs.Bytes.{twoAt}
 use Rattle.bundle_layout.specs.Held.{upTo}
 use Rattle.bundle_storage.specs.Rising.{rises}

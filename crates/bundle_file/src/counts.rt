@@ -8,7 +8,8 @@ ghost use mathlib.Core.Bool.{false};
 ghost use Prim.Native.Nat.{ℕ, _+_, _*_, _<_, _≤_};
 ghost use lib.ListN.{length, getD};
 ghost use Rattle.field.specs.Size.{sizeOf};
-ghost use Rattle.bundle_storage.specs.Blocks.{blocksOf, badBundleShape};
+ghost use Rattle.bundle_layout.specs.Blocks.{blocksOf};
+ghost use Rattle.bundle_layout.specs.Shape.{badBundleShape};
 ghost use Rattle.bundle_file.specs.Counts.{tallied, noneCounted, Coded, Counted};
 
 fn tally_one(count: u32, symbol: u32) -> u32

@@ -6,11 +6,13 @@ ghost use mathlib.Core.Bool.{false};
 ghost use mathlib.Core.List.{_++_};
 ghost use Prim.Native.Nat.{_+_, _*_, _-_, _<_, _≤_};
 ghost use lib.ListN.{length, take, replicate};
-ghost use Rattle.field.specs.Shape.{longest};
+ghost use Rattle.limits.specs.Shape.{longest};
 ghost use Rattle.field.specs.Size.{sizeOf};
 ghost use Rattle.poly.specs.Tab.{tab};
 ghost use Rattle.code.specs.Code.{codeWord};
-ghost use Rattle.bundle_storage.specs.Blocks.{blocksOf, mostBlocks, badBundleShape};
+ghost use Rattle.bundle_storage.specs.Blocks.{mostBlocks};
+ghost use Rattle.bundle_layout.specs.Blocks.{blocksOf};
+ghost use Rattle.bundle_layout.specs.Shape.{badBundleShape};
 ghost use Rattle.bundle_storage.specs.Bytes.{twoAt};
 ghost use Rattle.bundle_file.specs.File.{messageAt};
 

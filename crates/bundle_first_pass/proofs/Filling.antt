@@ -11,7 +11,8 @@ use lib.Dec.{eqb}
 use lib.ListN.{length, getD}
 use Rattle.poly.specs.Tab.{tab}
 use Rattle.poly.proofs.Tab.{tab-length, tab-at}
-use Rattle.bundle_storage.specs.Blocks.{blocksOf, badBundleShape}
+use Rattle.bundle_layout.specs.Blocks.{blocksOf}
+use Rattle.bundle_layout.specs.Shape.{badBundleShape}
 use Rattle.bundle_storage.specs.Bytes.{two, inBytes, put}
 use Rattle.bundle_storage.specs.Storage.{overflows, wordOf, countOf, bodyOf, bodySize, stored}
 use Rattle.bundle_storage.proofs.BytesLaws.{Alike, alike-on, alike-past, in-bytes-length, in-bytes-there}

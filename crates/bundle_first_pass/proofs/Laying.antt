@@ -7,7 +7,8 @@ use Prim.Native.Nat.{ℕ, zero, suc, _+_, _*_, _<_, _≤_}
 use native.Mathlib.Omega.{arith}
 use lib.ListN.{length, drop}
 use Rattle.field.specs.Size.{sizeOf}
-use Rattle.bundle_storage.specs.Blocks.{blocksOf, badBundleShape}
+use Rattle.bundle_layout.specs.Blocks.{blocksOf}
+use Rattle.bundle_layout.specs.Shape.{badBundleShape}
 use Rattle.bundle_storage.specs.Storage.{countOf, bodySize, stored}
 use Rattle.bundle_storage.proofs.Placing.{stored-behind}
 use Rattle.bundle_storage.proofs.Storing.{body-least}

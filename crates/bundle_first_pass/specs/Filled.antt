@@ -2,7 +2,7 @@
 use mathlib.Core.List.{List}
 use Prim.Native.Nat.{ℕ, _+_, _*_}
 use lib.ListN.{length}
-use Rattle.bundle_storage.specs.Blocks.{blocksOf}
+use Rattle.bundle_layout.specs.Blocks.{blocksOf}
 use Rattle.bundle_layout.specs.Fields.{offsetIn}
 use Rattle.bundle_storage.specs.Storage.{countOf}
 use Rattle.bundle_front.specs.Onward.{Stand}

@@ -11,7 +11,8 @@ use lib.Dec.{lit<}
 use lib.ListN.{length, getD, drop, length-map, List·getD-append}
 use lib.Seq.{getD-drop}
 use Rattle.code.specs.Code.{symbolOf}
-use Rattle.bundle_storage.specs.Blocks.{blocksOf, badBundleShape}
+use Rattle.bundle_layout.specs.Blocks.{blocksOf}
+use Rattle.bundle_layout.specs.Shape.{badBundleShape}
 use Rattle.bundle_storage.specs.Bytes.{two, four}
 use Rattle.bundle_layout.specs.Fields.{heldIn, entryAt, positionIn, countIn, offsetIn}
 use Rattle.bundle_layout.specs.Held.{upTo, positionsOf, Stored, IsBundle}

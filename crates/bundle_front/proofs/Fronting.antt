@@ -9,7 +9,8 @@ use native.Mathlib.Nat.{mul-le-mul}
 use native.Mathlib.Numerals.{add-one}
 use native.Mathlib.Omega.{arith}
 use lib.ListN.{length, getD}
-use Rattle.bundle_storage.specs.Blocks.{blocksOf, badBundleShape}
+use Rattle.bundle_layout.specs.Blocks.{blocksOf}
+use Rattle.bundle_layout.specs.Shape.{badBundleShape}
 use Rattle.bundle_storage.specs.Bytes.{two, four, put}
 use Rattle.bundle_layout.specs.Fields.{entryAt}
 use Rattle.bundle_layout.specs.Mark.{mark}

@@ -8,7 +8,7 @@ use native.Mathlib.Omega.{arith}
 use lib.Dec.{lit<}
 use lib.ListN.{length, getD, take, take-append-drop}
 use lib.Seq.{ext-getD, getD-take, length-take-le}
-use Rattle.field.specs.Leaves.{written}
+use Rattle.answers.specs.Leaves.{written}
 use Rattle.bundle_storage.specs.Bytes.{put}
 use Rattle.bundle_storage.proofs.BytesLaws.{Alike}
 use Rattle.bundle_storage.proofs.PutLaws.{put-length, put-behind, put-here, put-before, put-past}

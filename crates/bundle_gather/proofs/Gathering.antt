@@ -11,7 +11,7 @@ use native.Mathlib.Omega.{arith}
 use lib.ListN.{length, getD, take, drop, set, replicate, length-set, length-append, length-drop, length-replicate, getD-replicate, List·getD-append}
 use lib.Seq.{length-take-le, getD-set-same, getD-set-other, drop-append-add, drop-drop}
 use Rattle.field.specs.Field.{product}
-use Rattle.field.specs.Refusals.{result}
+use Rattle.answers.specs.Refusals.{result}
 use Rattle.field.specs.Size.{sizeOf}
 use Rattle.bundle_storage.specs.Bytes.{Bytes}
 use Rattle.bundle_storage.specs.Storage.{bodySize, bodyGood, symbolIn, wordsAt, Placed}

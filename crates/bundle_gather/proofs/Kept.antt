@@ -8,9 +8,9 @@ use native.Mathlib.Omega.{arith}
 use lib.ListN.{length, getD, drop}
 use lib.Seq.{getD-drop}
 use Rattle.field.specs.Congruence.{_≈_}
-use Rattle.field.specs.Refusals.{result}
+use Rattle.answers.specs.Refusals.{result}
 use Rattle.field.specs.Size.{sizeOf}
-use Rattle.field.proofs.Shape.{longest-le, size-le}
+use Rattle.limits.proofs.Shape.{longest-le, size-le}
 use Rattle.field.proofs.Size.{size-enough}
 use Rattle.poly.specs.Products.{vanishing}
 use Rattle.poly.specs.Value.{value}

@@ -13,7 +13,7 @@ use lib.Dec.{eqb}
 use lib.ListN.{length, getD, set, length-set, length-replicate, replicate, getD-replicate}
 use lib.Seq.{getD-set-same, getD-set-other}
 use Rattle.field.specs.Points.{pointOf}
-use Rattle.field.specs.Refusals.{result}
+use Rattle.answers.specs.Refusals.{result}
 use Rattle.field.specs.Size.{sizeOf}
 use Rattle.poly.specs.Tab.{tab}
 use Rattle.poly.proofs.Tab.{tab-length, tab-at}

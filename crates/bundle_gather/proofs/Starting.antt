@@ -11,8 +11,8 @@ use native.Mathlib.Omega.{arith}
 use lib.ListN.{length, getD, take, drop, set, length-set, length-drop}
 use lib.Seq.{length-take-le, getD-set-same, getD-set-other, getD-take, getD-drop, drop-drop, ext-getD}
 use Rattle.field.specs.Congruence.{_≈_}
-use Rattle.field.specs.Refusals.{result}
-use Rattle.field.specs.Shape.{badShape}
+use Rattle.answers.specs.Refusals.{result}
+use Rattle.limits.specs.Shape.{badShape}
 use Rattle.field.specs.Size.{sizeOf}
 use Rattle.poly.specs.Products.{vanishing}
 use Rattle.poly.specs.Tab.{tab}

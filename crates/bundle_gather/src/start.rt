@@ -15,7 +15,7 @@ ghost use mathlib.Core.Path.{_≡_};
 ghost use mathlib.Core.List.{[], _++_};
 ghost use Prim.Native.Nat.{_+_, _*_, _<_, _≤_};
 ghost use lib.ListN.{length, getD, take, drop, set};
-ghost use Rattle.field.specs.Refusals.{result};
+ghost use Rattle.answers.specs.Refusals.{result};
 ghost use Rattle.field.specs.Size.{sizeOf};
 ghost use Rattle.poly.specs.Tab.{tab};
 ghost use Rattle.bundle_layout.specs.Fields.{kIn, nIn, heldIn, positionIn};

@@ -9,9 +9,9 @@ use borrow.Author.Tests.{le-ltb, eq-eqb}
 use lib.Dec.{lit≤}
 use lib.ListN.{length, getD, take, drop, length-append}
 use lib.Seq.{take-at}
-use Rattle.field.specs.First.{first}
-use Rattle.field.specs.Refusals.{result}
-use Rattle.bundle_storage.specs.Blocks.{blocksOf}
+use Rattle.answers.specs.First.{first}
+use Rattle.answers.specs.Refusals.{result}
+use Rattle.bundle_layout.specs.Blocks.{blocksOf}
 use Rattle.bundle_storage.specs.Bytes.{two, four, twoAt, fourAt}
 use Rattle.bundle_layout.specs.Fields.{kIn, nIn, lengthIn, heldIn, lastIn, blocksIn, entryAt, positionIn, countIn, offsetIn}
 use Rattle.bundle_layout.specs.Held.{upTo, shadowIn, shadowsIn, Stored, IsBundle}

@@ -10,7 +10,7 @@ use native.Mathlib.Omega.{arith}
 use borrow.Author.Tests.{eq-eqb, ne-eqb, lt-leb, le-leb, eqb-true, not-false}
 use lib.Dec.{eqb}
 use lib.ListN.{length, drop, length-drop}
-use Rattle.field.proofs.Checks.{or-false}
+use Rattle.answers.proofs.Checks.{or-false}
 use Rattle.bundle_layout.specs.Fields.{nIn, heldIn, blocksIn, entryAt, positionIn, countIn, offsetIn}
 use Rattle.bundle_layout.specs.Layout.{startOf, badEntry, restGood}
 use Rattle.bundle_storage.specs.Rising.{outOfOrder}

@@ -8,11 +8,13 @@ use native.Mathlib.Nat.{not-suc-le-zero, le-of-suc-le-suc, zero-lt-suc}
 use native.Mathlib.Omega.{arith}
 use lib.ListN.{length, getD, drop, length-append}
 use lib.Seq.{drop-at}
-use Rattle.field.specs.Shape.{longest}
-use Rattle.field.proofs.Shape.{shape-good}
+use Rattle.limits.specs.Shape.{longest}
+use Rattle.limits.proofs.Shape.{shape-good}
 use Rattle.poly.specs.Tab.{tab}
 use Rattle.poly.proofs.Tab.{tab-length, tab-at}
-use Rattle.bundle_storage.specs.Blocks.{blocksOf, longestFile, mostBlocks, badBundleShape}
+use Rattle.bundle_storage.specs.Blocks.{mostBlocks}
+use Rattle.bundle_layout.specs.Blocks.{blocksOf}
+use Rattle.bundle_layout.specs.Shape.{longestFile, badBundleShape}
 use Rattle.bundle_storage.specs.Bytes.{two, four}
 use Rattle.bundle_layout.specs.Held.{upTo, positionsOf, Stored, AllStored}
 use Rattle.bundle_layout.specs.Shadows.{Shadow, entrySize, entry, table, bodies}

@@ -1,3 +1,4 @@
+pub mod BlocksLaws
 pub mod Entries
 pub mod Passing
 pub mod Holding

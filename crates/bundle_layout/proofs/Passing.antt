@@ -10,13 +10,15 @@ use native.Mathlib.Omega.{arith}
 use borrow.Author.Tests.{ltb-false, leb-true, eqb-true, not-false}
 use lib.Dec.{ltb, leb}
 use lib.ListN.{length, drop}
-use Rattle.field.specs.First.{first}
-use Rattle.field.specs.Refusals.{result}
-use Rattle.field.specs.Shape.{longest, badShape}
-use Rattle.field.specs.declared.refusal.Refusal.the-variants.{Shape, Form}
-use Rattle.field.proofs.Checks.{passed, or-false}
-use Rattle.field.proofs.Shape.{shape-good}
-use Rattle.bundle_storage.specs.Blocks.{blocksOf, longestFile, mostBlocks, badBundleShape}
+use Rattle.answers.specs.First.{first}
+use Rattle.answers.specs.Refusals.{result}
+use Rattle.limits.specs.Shape.{longest, badShape}
+use Rattle.answers.specs.declared.refusal.Refusal.the-variants.{Shape, Form}
+use Rattle.answers.proofs.Checks.{passed, or-false}
+use Rattle.limits.proofs.Shape.{shape-good}
+use Rattle.bundle_storage.specs.Blocks.{mostBlocks}
+use Rattle.bundle_layout.specs.Blocks.{blocksOf}
+use Rattle.bundle_layout.specs.Shape.{longestFile, badBundleShape}
 use Rattle.bundle_storage.specs.Bytes.{Bytes}
 use Rattle.bundle_layout.specs.Fields.{kIn, nIn, lengthIn, heldIn, lastIn, blocksIn, entryAt, positionIn, countIn, offsetIn}
 use Rattle.bundle_layout.specs.Layout.{badFront, startOf, badEntry, restGood, layoutChecks}

@@ -2,7 +2,7 @@
 -- Assumes nothing.
 use mathlib.Core.Path.{_≡_, sym, ap}
 use Prim.Native.Nat.{ℕ}
-use Rattle.field.proofs.Refusals.{result-no-refusal, refusals-told}
+use Rattle.answers.proofs.Refusals.{result-no-refusal, refusals-told}
 use Rattle.bundle_layout.specs.Facts.{toldFacts, toldEntry}
 use Rattle.bundle_layout.specs.declared.facts.EntryAnswer.{EntryAnswer}
 use Rattle.bundle_layout.specs.declared.facts.EntryAnswer.the-variants as E

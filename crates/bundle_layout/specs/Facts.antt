@@ -2,19 +2,14 @@
 use mathlib.Core.List.{List, [], _∷_}
 use Prim.Native.Nat.{ℕ}
 use lib.Dec.{leb}
-use Rattle.field.specs.Refusals.{Answer, result, refusal, refused, refuseIf}
-use Rattle.field.specs.declared.refusal.Refusal.the-variants.{Position}
+use Rattle.answers.specs.Refusals.{Answer, result, refused, refuseIf, after}
+use Rattle.answers.specs.declared.refusal.Refusal.the-variants.{Position}
 use Rattle.bundle_layout.specs.Fields.{kIn, nIn, lengthIn, heldIn, blocksIn, positionIn, countIn, offsetIn}
 use Rattle.bundle_layout.specs.Layout.{layoutChecks}
 use Rattle.bundle_layout.specs.declared.facts.EntryAnswer.{EntryAnswer}
 use Rattle.bundle_layout.specs.declared.facts.EntryAnswer.the-variants as E
 use Rattle.bundle_layout.specs.declared.facts.FactsAnswer.{FactsAnswer}
 use Rattle.bundle_layout.specs.declared.facts.FactsAnswer.the-variants as F
-
--- what comes after checks that passed
-abbrev pub after : Answer → Answer → Answer
-after (refusal n i) later = refusal n i
-after (result vs) later = later
 
 -- k, n, L, how many shadows are held, B
 unfoldable pub factsAnswer : List ℕ → Answer

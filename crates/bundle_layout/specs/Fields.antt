@@ -1,7 +1,7 @@
 -- The fields of a bundle as they are read: what stands in its header and its table.
 use mathlib.Core.List.{List}
 use Prim.Native.Nat.{ℕ, _+_, _*_}
-use Rattle.bundle_storage.specs.Blocks.{blocksOf}
+use Rattle.bundle_layout.specs.Blocks.{blocksOf}
 use Rattle.bundle_storage.specs.Bytes.{twoAt, fourAt}
 use Rattle.bundle_layout.specs.Shadows.{headerSize, entrySize}
 

@@ -5,7 +5,8 @@ use mathlib.Core.List.{List, [], _∷_, map}
 use Prim.Native.Nat.{ℕ}
 use lib.ListN.{length, getD, take, drop}
 use Rattle.poly.specs.Tab.{tab}
-use Rattle.bundle_storage.specs.Blocks.{blocksOf, badBundleShape}
+use Rattle.bundle_layout.specs.Blocks.{blocksOf}
+use Rattle.bundle_layout.specs.Shape.{badBundleShape}
 use Rattle.bundle_storage.specs.Bytes.{Bytes}
 use Rattle.bundle_layout.specs.Fields.{heldIn, blocksIn, positionIn, countIn}
 use Rattle.bundle_layout.specs.Layout.{startOf}

@@ -5,10 +5,10 @@ use mathlib.Core.List.{List, []}
 use Prim.Native.Nat.{ℕ, zero, suc, _+_}
 use lib.Dec.{leb, ltb, eqb}
 use lib.ListN.{length, drop}
-use Rattle.field.specs.First.{first}
-use Rattle.field.specs.Refusals.{Answer, result, refuseIf}
-use Rattle.field.specs.declared.refusal.Refusal.the-variants.{Shape, Form}
-use Rattle.bundle_storage.specs.Blocks.{badBundleShape}
+use Rattle.answers.specs.First.{first}
+use Rattle.answers.specs.Refusals.{Answer, result, refuseIf}
+use Rattle.answers.specs.declared.refusal.Refusal.the-variants.{Shape, Form}
+use Rattle.bundle_layout.specs.Shape.{badBundleShape}
 use Rattle.bundle_layout.specs.Fields.{kIn, nIn, lengthIn, heldIn, lastIn, blocksIn, positionIn, countIn, offsetIn}
 use Rattle.bundle_layout.specs.Mark.{mark, startsWith}
 use Rattle.bundle_storage.specs.Rising.{outOfOrder}

@@ -1,3 +1,5 @@
+pub mod Blocks
+pub mod Shape
 pub mod Mark
 pub mod Shadows
 pub mod Rooms

@@ -4,7 +4,7 @@ use mathlib.Core.List.{List, [], _∷_}
 use Prim.Native.Nat.{ℕ}
 use lib.Dec.{leb, eqb}
 use lib.ListN.{length, getD}
-use Rattle.field.specs.First.{first}
+use Rattle.answers.specs.First.{first}
 
 unfoldable pub mark : List ℕ
 mark = 0x46 ∷ 0x4E ∷ 0x54 ∷ 0x42 ∷ []

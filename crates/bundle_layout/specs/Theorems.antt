@@ -2,7 +2,7 @@
 use mathlib.Core.Path.{_≡_}
 use mathlib.Core.List.{List, []}
 use Prim.Native.Nat.{ℕ}
-use Rattle.field.specs.Refusals.{result}
+use Rattle.answers.specs.Refusals.{result}
 use Rattle.bundle_storage.specs.Bytes.{Bytes}
 use Rattle.bundle_layout.specs.Facts.{toldFacts, toldEntry, factsAnswer, entryAnswer}
 use Rattle.bundle_layout.specs.Fields.{kIn, nIn, lengthIn}

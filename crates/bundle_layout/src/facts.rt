@@ -9,8 +9,8 @@ use crate::inner::length_in;
 use crate::inner::n_in;
 use crate::inner::offset_in;
 use crate::inner::position_in;
-use field::Outcome;
-use field::Refusal;
+use answers::Outcome;
+use answers::Refusal;
 ghost use mathlib.Core.Path.{_≡_};
 ghost use Rattle.bundle_layout.specs.Facts.{toldFacts, toldEntry, factsAnswer, entryAnswer};
 

@@ -13,19 +13,18 @@ use borrow.Author.Tests.{ltb-false, eqb-false}
 use lib.Dec.{eqb}
 use lib.ListN.{length, getD, take, drop, length-append, length-take, drop-of-length-le}
 use lib.Seq.{length-take-le, take-at, take-all, take-length, take-append-le, take-take}
-use Rattle.field.specs.First.{first}
-use Rattle.field.specs.Refusals.{Answer, result, refused, toldOutcome}
+use Rattle.answers.specs.First.{first}
+use Rattle.answers.specs.Refusals.{Answer, result, refused, toldOutcome, after}
 use Rattle.field.specs.Symbol.{Symbols}
-use Rattle.field.specs.declared.refusal.Outcome.{Outcome}
-use Rattle.field.specs.declared.refusal.Outcome.the-variants.{Done}
-use Rattle.field.specs.declared.refusal.Refusal.{Refusal}
-use Rattle.field.specs.declared.refusal.Refusal.the-variants.{Disagree, Word, Tail}
-use Rattle.field.proofs.Checks.{stops, goes-on}
-use Rattle.field.proofs.First.{first-before}
-use Rattle.field.proofs.Refusals.{result-no-refusal}
-use Rattle.bundle_storage.specs.Blocks.{blocksOf}
+use Rattle.answers.specs.declared.refusal.Outcome.{Outcome}
+use Rattle.answers.specs.declared.refusal.Outcome.the-variants.{Done}
+use Rattle.answers.specs.declared.refusal.Refusal.{Refusal}
+use Rattle.answers.specs.declared.refusal.Refusal.the-variants.{Disagree, Word, Tail}
+use Rattle.answers.proofs.Checks.{stops, goes-on}
+use Rattle.answers.proofs.First.{first-before}
+use Rattle.answers.proofs.Refusals.{result-no-refusal}
+use Rattle.bundle_layout.specs.Blocks.{blocksOf}
 use Rattle.bundle_storage.specs.Bytes.{inBytes}
-use Rattle.bundle_layout.specs.Facts.{after}
 use Rattle.bundle_layout.specs.Fields.{kIn, lengthIn, blocksIn}
 use Rattle.bundle_layout.specs.Layout.{layoutChecks}
 use Rattle.bundle_storage.proofs.BytesLaws.{in-bytes-length}
@@ -33,7 +32,7 @@ use Rattle.bundle_layout.proofs.Passing.{k-some}
 use Rattle.bundle_read.proofs.MessageBytes.{laid-past}
 use Rattle.bundle_gather.specs.Gathering.{Laid}
 use Rattle.bundle_read.specs.Reading.{some-meets, decodedAt, badWord, badTail, judged, blockAnswer, blocksAnswer, bytesOf, bytesBefore, fileIn}
-use Rattle.bundle_storage.proofs.BlocksLaws.{block-inside, blocks-hold}
+use Rattle.bundle_layout.proofs.BlocksLaws.{block-inside, blocks-hold}
 
 -- One message
 

@@ -7,8 +7,8 @@ use Prim.Native.Nat.{ℕ, _<_}
 use native.Mathlib.Omega.{arith}
 use borrow.Author.Tests.{le-ltb}
 use lib.ListN.{length, getD}
-use Rattle.field.specs.First.{first}
-use Rattle.field.proofs.First.{first-none}
+use Rattle.answers.specs.First.{first}
+use Rattle.answers.proofs.First.{first-none}
 use Rattle.bundle_storage.proofs.RisingLaws.{some-found}
 use Rattle.bundle_read.specs.Reading.{some-meets}
 

@@ -11,12 +11,12 @@ use lib.ListN.{length, getD, take, drop, length-append, length-drop, take-append
 use lib.Seq.{length-take-le, getD-take, getD-drop, take-append-le, drop-append-le, ext-getD}
 use Rattle.field.specs.Congruence.{_≈_}
 use Rattle.field.specs.Field.{power}
-use Rattle.field.specs.Refusals.{result}
-use Rattle.field.specs.Shape.{badShape}
+use Rattle.answers.specs.Refusals.{result}
+use Rattle.limits.specs.Shape.{badShape}
 use Rattle.field.specs.Size.{sizeOf}
 use Rattle.field.specs.Symbol.{Symbols}
 use Rattle.field.proofs.Ring.{product-lt}
-use Rattle.field.proofs.Shape.{shape-good, level-twice}
+use Rattle.limits.proofs.Shape.{shape-good, level-twice}
 use Rattle.field.proofs.Size.{size-size}
 use Rattle.poly.specs.Products.{vanishing}
 use Rattle.poly.specs.Tab.{tab}

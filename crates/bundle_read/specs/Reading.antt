@@ -5,14 +5,13 @@ use mathlib.Core.Option.{Option, some, none}
 use Prim.Native.Nat.{ℕ, zero, suc, _*_, _-_}
 use lib.Dec.{ltb, eqb}
 use lib.ListN.{length, getD, take, drop}
-use Rattle.field.specs.First.{first}
-use Rattle.field.specs.Refusals.{Answer, result, refused, refuseIf}
-use Rattle.field.specs.declared.refusal.Refusal.the-variants.{Disagree, Word, Tail}
+use Rattle.answers.specs.First.{first}
+use Rattle.answers.specs.Refusals.{Answer, result, refused, refuseIf, after}
+use Rattle.answers.specs.declared.refusal.Refusal.the-variants.{Disagree, Word, Tail}
 use Rattle.poly.specs.Tab.{tab}
 use Rattle.code.specs.Decoding.{decodeOf}
 use Rattle.code.specs.Held.{Held, held}
 use Rattle.bundle_storage.specs.Bytes.{inBytes}
-use Rattle.bundle_layout.specs.Facts.{after}
 use Rattle.bundle_layout.specs.Fields.{kIn, nIn, lengthIn, heldIn, blocksIn, positionIn, countIn, offsetIn}
 use Rattle.bundle_storage.specs.Storage.{symbolIn}
 

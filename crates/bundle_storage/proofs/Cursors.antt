@@ -9,8 +9,8 @@ use native.Mathlib.Omega.{arith}
 use borrow.Author.Tests.{lt-ltb, le-ltb, le-leb, lt-leb, ltb-true, leb-true, leb-false, eqb-true, eqb-false}
 use lib.Dec.{ltb, leb, eqb}
 use lib.ListN.{length, drop, length-drop}
-use Rattle.field.specs.First.{first}
-use Rattle.field.proofs.First.{first-here, first-all, first-le, first-before, first-holds}
+use Rattle.answers.specs.First.{first}
+use Rattle.answers.proofs.First.{first-here, first-all, first-le, first-before, first-holds}
 use Rattle.bundle_storage.specs.Bytes.{Bytes, twoAt}
 use Rattle.bundle_storage.specs.Rising.{rises}
 use Rattle.bundle_storage.specs.Storage.{bodySize, listAt, listed, symbolIn, cursorIn, wordsAt, cursorAt, Placed}

@@ -1,5 +1,4 @@
 pub mod BytesLaws
-pub mod BlocksLaws
 pub mod PutLaws
 pub mod RisingLaws
 pub mod Storing

@@ -7,7 +7,7 @@ use native.Mathlib.Nat.{zero-add}
 use native.Mathlib.Omega.{arith}
 use lib.ListN.{length, take, drop, set, length-append, length-take, length-drop, take-append-drop}
 use lib.Seq.{take-at, drop-at, drop-drop, drop-append-add, length-take-le, sets-eq}
-use Rattle.field.specs.Leaves.{written}
+use Rattle.answers.specs.Leaves.{written}
 use Rattle.bundle_storage.specs.Bytes.{two, four, put}
 use Rattle.bundle_storage.proofs.BytesLaws.{Alike, alike-past, alike-front, alike-take, alike-drop, two-length}
 

@@ -9,9 +9,9 @@ use native.Mathlib.Numerals.{add-one}
 use native.Mathlib.Omega.{arith}
 use borrow.Author.Tests.{lt-ltb, le-ltb, le-leb, lt-leb, ltb-false, leb-false, leb-true}
 use lib.Dec.{ltb, leb}
-use Rattle.field.specs.First.{first}
-use Rattle.field.proofs.First.{first-here, first-none, first-before}
-use Rattle.field.proofs.Checks.{or-false}
+use Rattle.answers.specs.First.{first}
+use Rattle.answers.proofs.First.{first-here, first-none, first-before}
+use Rattle.answers.proofs.Checks.{or-false}
 use Rattle.bundle_storage.specs.Rising.{least, outOfOrder, rises}
 
 -- a search that passed every index, and one that found nothing

@@ -11,7 +11,7 @@ use borrow.Author.Tests.{le-ltb, le-leb, eq-eqb, ne-eqb, eqb-true, eqb-false, le
 use lib.Dec.{leb, eqb, lit<}
 use lib.ListN.{length, getD, length-append, List·getD-append}
 use lib.Seq.{getD-at}
-use Rattle.field.proofs.First.{first-none}
+use Rattle.answers.proofs.First.{first-none}
 use Rattle.poly.specs.Tab.{tab}
 use Rattle.poly.proofs.Tab.{tab-length, tab-at}
 use Rattle.bundle_storage.specs.Blocks.{mostBlocks}

@@ -2,7 +2,7 @@
 use mathlib.Core.Bool.{Bool, _||_}
 use Prim.Native.Nat.{ℕ, zero, suc}
 use lib.Dec.{ltb, leb}
-use Rattle.field.specs.First.{first}
+use Rattle.answers.specs.First.{first}
 
 -- the least that the number at index j may be: one more than the number before it
 unfoldable pub least : (ℕ → ℕ) → ℕ → ℕ

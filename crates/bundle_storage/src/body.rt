@@ -2,7 +2,7 @@
 // crates above reach them in `inner`.
 use crate::inner::put_two;
 use crate::inner::two_at;
-use field::inner::wide;
+use cells::inner::wide;
 ghost use mathlib.Core.Path.{_≡_};
 ghost use mathlib.Core.Bool.{_&&_};
 ghost use mathlib.Core.List.{List};

@@ -8,8 +8,9 @@ use Prim.Native.Nat.{ℕ, zero, suc, _+_, _*_, _<_, _≤_}
 use native.Mathlib.Decide.{decLt}
 use native.Mathlib.Omega.{arith}
 use lib.ListN.{length}
-use Rattle.field.specs.Leaves.{written}
-use Rattle.bundle_storage.specs.Blocks.{blocksOf, badBundleShape}
+use Rattle.answers.specs.Leaves.{written}
+use Rattle.bundle_layout.specs.Blocks.{blocksOf}
+use Rattle.bundle_layout.specs.Shape.{badBundleShape}
 use Rattle.bundle_layout.specs.Fields.{entryAt, countIn, offsetIn}
 use Rattle.bundle_layout.specs.Shadows.{headerSize, entrySize, firstBody}
 use Rattle.bundle_storage.specs.Storage.{countOf, bodySize, stored}

@@ -1,8 +1,8 @@
-// No entry points: what is done to lent lists whatever they hold. Clearing takes any, copying asks that there is room.
+// No entry points: what is done to lent lists whatever they hold. Clearing and widening take any, copying asks that there is room.
 ghost use mathlib.Core.Path.{_≡_};
 ghost use Prim.Native.Nat.{_≤_};
 ghost use lib.ListN.{length, replicate};
-ghost use Rattle.field.specs.Leaves.{written};
+ghost use Rattle.answers.specs.Leaves.{written};
 
 pub fn clear(cells: &mut [u32])
     ensures { λ _. ⌜ now (cells .exit) ≡ replicate (length (now (cells .entry))) 0 ⌝ }
@@ -45,4 +45,11 @@ pub fn copy_bytes(from: &[u8], to: &mut [u8])
         to[i] = from[i];
         i += 1;
     }
+}
+
+// A number that stands in a lent list, as one to count with.
+pub fn wide(number: u32) -> usize
+    ensures { λ r. ⌜ r ≡ number ⌝ }
+{
+    number as usize
 }

@@ -16,8 +16,8 @@ use Rattle.field.specs.Points.{pointOf}
 use Rattle.field.specs.Size.{sizeOf}
 use Rattle.field.specs.Symbol.{Symbols}
 use Rattle.field.proofs.Congruence.{≈-of, ≈-sym, _∘≈_, mod-≈}
-use Rattle.field.proofs.First.{first-before, first-none}
-use Rattle.field.proofs.Shape.{shape-good}
+use Rattle.answers.proofs.First.{first-before, first-none}
+use Rattle.limits.proofs.Shape.{shape-good}
 use Rattle.poly.specs.Value.{value}
 use Rattle.poly.proofs.Interpolation.{through-length, through-symbols, through-unique, fits-of}
 use Rattle.poly.proofs.Symbols.{symbols-at, symbols-every}

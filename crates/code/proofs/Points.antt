@@ -7,11 +7,11 @@ use native.Mathlib.Nat.{lt-trans, lt-of-lt-of-le, le-trans}
 use lib.ListN.{length, getD}
 use Rattle.field.specs.Congruence.{_≈_}
 use Rattle.field.specs.Points.{pointOf}
-use Rattle.field.specs.Shape.{longest}
+use Rattle.limits.specs.Shape.{longest}
 use Rattle.field.specs.Size.{sizeOf}
 use Rattle.field.proofs.Congruence.{reduced}
 use Rattle.field.proofs.Ring.{power-lt}
-use Rattle.field.proofs.Shape.{longest-le}
+use Rattle.limits.proofs.Shape.{longest-le}
 use Rattle.field.proofs.Size.{size-enough}
 use Rattle.field.proofs.Theorems.{points-distinct}
 use Rattle.poly.specs.Distinct.{Distinct}

@@ -8,11 +8,11 @@ use native.Mathlib.Omega.{arith}
 use lib.Dec.{lit<}
 use lib.ListN.{length, getD, take, drop, replicate, length-append, length-drop, length-replicate, drop-of-length-le}
 use lib.Seq.{length-take-le, take-at, take-append-le, getD-take, ext-getD}
-use Rattle.field.specs.Leaves.{written}
+use Rattle.answers.specs.Leaves.{written}
 use Rattle.field.specs.Points.{pointOf}
 use Rattle.field.specs.Size.{levelOf, sizeOf}
-use Rattle.field.proofs.Leaves.{lent-length}
-use Rattle.field.proofs.Shape.{shape-good, longest-le}
+use Rattle.answers.proofs.Leaves.{lent-length}
+use Rattle.limits.proofs.Shape.{shape-good, longest-le}
 use Rattle.field.proofs.Size.{level-le, size-power, size-enough}
 use Rattle.poly.specs.Value.{value}
 use Rattle.poly.proofs.Every.{every-replicate}

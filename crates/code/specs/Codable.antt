@@ -4,7 +4,7 @@ use mathlib.Core.Bool.{false}
 use mathlib.Core.List.{List}
 use Prim.Native.Nat.{ℕ}
 use lib.ListN.{length}
-use Rattle.field.specs.Shape.{badShape}
+use Rattle.limits.specs.Shape.{badShape}
 use Rattle.field.specs.Symbol.{Symbols}
 
 pub record Codable (n : ℕ) (message : List ℕ) : Type 0 where

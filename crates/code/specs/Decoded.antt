@@ -2,9 +2,9 @@
 use mathlib.Core.List.{List, []}
 use mathlib.Core.Option.{Option, some, none}
 use Prim.Native.Nat.{ℕ}
-use Rattle.field.specs.Leaves.{Leaves, left, written, zeroed}
-use Rattle.field.specs.Refusals.{result, refused}
-use Rattle.field.specs.declared.refusal.Refusal.the-variants.{Disagree}
+use Rattle.answers.specs.Leaves.{Leaves, left, written, zeroed}
+use Rattle.answers.specs.Refusals.{result, refused}
+use Rattle.answers.specs.declared.refusal.Refusal.the-variants.{Disagree}
 use Rattle.code.specs.Rooms.{decodeRoom}
 
 -- the message is written where one fits; where none does, DISAGREE: "the stated working space is zero; a single block's output is untouched"

@@ -6,7 +6,7 @@ use mathlib.Core.Option.{Option, some, none}
 use Prim.Native.Nat.{ℕ}
 use lib.Dec.{ltb, eqb}
 use lib.ListN.{getD, take}
-use Rattle.field.specs.First.{first}
+use Rattle.answers.specs.First.{first}
 use Rattle.field.specs.Points.{pointOf}
 use Rattle.field.specs.Size.{sizeOf}
 use Rattle.poly.specs.Interpolation.{through}

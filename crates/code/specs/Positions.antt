@@ -3,7 +3,7 @@ use mathlib.Core.List.{List}
 use Prim.Native.Nat.{ℕ, _<_}
 use lib.Dec.{leb}
 use lib.ListN.{length, getD}
-use Rattle.field.specs.First.{first}
+use Rattle.answers.specs.First.{first}
 
 -- the first such index, the list's length where there is none
 unfoldable pub firstOutside : ℕ → List ℕ → ℕ

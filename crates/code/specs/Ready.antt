@@ -3,7 +3,7 @@ use mathlib.Core.Path.{_≡_}
 use mathlib.Core.Bool.{false}
 use Prim.Native.Nat.{ℕ, _≤_}
 use lib.ListN.{length}
-use Rattle.field.specs.Shape.{badShape}
+use Rattle.limits.specs.Shape.{badShape}
 use Rattle.field.specs.Symbol.{Symbols}
 use Rattle.code.specs.Held.{Held, heldCount}
 use Rattle.code.specs.Positions.{Inside}

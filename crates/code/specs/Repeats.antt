@@ -5,7 +5,7 @@ use mathlib.Core.List.{List}
 use Prim.Native.Nat.{ℕ, _<_}
 use lib.Dec.{ltb, eqb}
 use lib.ListN.{length, getD}
-use Rattle.field.specs.First.{first}
+use Rattle.answers.specs.First.{first}
 
 -- the position at index i stands at an earlier index too
 unfoldable pub standsEarlier : List ℕ → ℕ → Bool

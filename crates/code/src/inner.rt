@@ -7,7 +7,7 @@ ghost use mathlib.Core.Path.{_≡_};
 ghost use mathlib.Core.List.{_++_};
 ghost use Prim.Native.Nat.{_-_, _≤_};
 ghost use lib.ListN.{length, replicate};
-ghost use Rattle.field.specs.Leaves.{written};
+ghost use Rattle.answers.specs.Leaves.{written};
 ghost use Rattle.code.specs.Code.{codeWord};
 ghost use Rattle.code.specs.Codable.{Codable};
 ghost use Rattle.code.specs.Rooms.{encodeRoom};

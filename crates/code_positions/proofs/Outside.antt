@@ -7,7 +7,7 @@ use native.Mathlib.Nat.{lt-of-lt-of-le}
 use borrow.Author.Tests.{leb-false, lt-leb}
 use lib.Dec.{leb}
 use lib.ListN.{length, getD}
-use Rattle.field.proofs.First.{first-before, first-none}
+use Rattle.answers.proofs.First.{first-before, first-none}
 use Rattle.code.specs.Positions.{firstOutside, Inside}
 
 pub outside-none : (n : ℕ) (positions : List ℕ) → length positions ≤ firstOutside n positions → Inside n positions

@@ -10,7 +10,7 @@ use borrow.Author.Count.{below-none, below-more}
 use borrow.Author.Tests.{ltb-false, le-ltb, eqb-false, ne-eqb}
 use lib.Dec.{eqb}
 use lib.ListN.{length, getD, replicate}
-use Rattle.field.proofs.First.{first-here, first-none, first-all, first-before}
+use Rattle.answers.proofs.First.{first-here, first-none, first-all, first-before}
 use Rattle.code_positions.specs.Bitmap.{marked, withMark}
 use Rattle.code.specs.Repeats.{standsEarlier, firstRepeat}
 use Rattle.code_positions.proofs.Bitmap.{mark-same, mark-other, none-marked}

@@ -1,11 +1,11 @@
 // REPEAT: whether a position stands earlier in the list, found with one bit for each position and one pass over the list. No entry point:
 // its caller has made the check before it, POSITION.
-use field::inner::LONGEST;
+use limits::LONGEST;
 ghost use mathlib.Core.Path.{_≡_};
 ghost use mathlib.Core.Bool.{false};
 ghost use Prim.Native.Nat.{_/_, _%_, _^_, _<_};
 ghost use lib.ListN.{length};
-ghost use Rattle.field.specs.Shape.{longest};
+ghost use Rattle.limits.specs.Shape.{longest};
 ghost use Rattle.code_positions.specs.Bitmap.{marked, withMark};
 ghost use Rattle.code.specs.Positions.{Inside};
 ghost use Rattle.code.specs.Repeats.{firstRepeat};

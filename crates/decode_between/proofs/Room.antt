@@ -10,11 +10,11 @@ use lib.ListN.{length, getD, take, drop}
 use lib.Pow.{pow-add, pow-pos}
 use lib.Seq.{getD-take, getD-drop, length-take-le}
 use Rattle.field.specs.Field.{power}
-use Rattle.field.specs.Shape.{badShape}
+use Rattle.limits.specs.Shape.{badShape}
 use Rattle.field.specs.Size.{levelOf, sizeOf}
 use Rattle.field.specs.Symbol.{Symbols}
 use Rattle.field.proofs.Ring.{power-lt, symbols-product}
-use Rattle.field.proofs.Shape.{size-le}
+use Rattle.limits.proofs.Shape.{size-le}
 use Rattle.field.proofs.Size.{size-power, size-small, size-size, level-least}
 use Rattle.poly.proofs.Tab.{tab-at}
 use Rattle.decode_between.specs.Between.{psi}

@@ -1,6 +1,6 @@
 // No entry points: the values of a polynomial at the K points between those of the code word. Of 4N cells the first N hold the coefficients, the
 // next N are room, which the values go to, and the last N hold the powers of ψ.
-use field::inner::wide;
+use cells::inner::wide;
 use transform_table::inner::transform_by;
 ghost use mathlib.Core.Path.{_≡_};
 ghost use Prim.Native.Nat.{_+_, _*_, _/_, _%_, _<_};

@@ -12,15 +12,15 @@ use lib.Dec.{lit<}
 use lib.ListN.{length, getD, take, drop, replicate, length-append, length-drop}
 use lib.Seq.{length-take-le, take-at, drop-at, drop-append-add, drop-drop}
 use Rattle.field.specs.Field.{product}
-use Rattle.field.specs.Leaves.{left, written, zeroed}
-use Rattle.field.specs.Refusals.{result, refused}
-use Rattle.field.specs.Shape.{badShape}
+use Rattle.answers.specs.Leaves.{left, written, zeroed}
+use Rattle.answers.specs.Refusals.{result, refused}
+use Rattle.limits.specs.Shape.{badShape}
 use Rattle.field.specs.Size.{sizeOf}
 use Rattle.field.specs.Symbol.{Symbols}
-use Rattle.field.specs.declared.refusal.Refusal.the-variants.{Disagree}
-use Rattle.field.proofs.Leaves.{zeroed-all}
+use Rattle.answers.specs.declared.refusal.Refusal.the-variants.{Disagree}
+use Rattle.answers.proofs.Leaves.{zeroed-all}
 use Rattle.field.proofs.Ring.{product-lt}
-use Rattle.field.proofs.Shape.{shape-good, longest-le}
+use Rattle.limits.proofs.Shape.{shape-good, longest-le}
 use Rattle.field.proofs.Size.{size-enough, size-small}
 use Rattle.poly.proofs.Tab.{tab-at}
 use Rattle.code.specs.Decoded.{decoded}

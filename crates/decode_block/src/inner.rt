@@ -1,19 +1,19 @@
 // No entry points: the message that fits all held symbols, by division by the product over the missing points. The caller has made the checks.
+use answers::Outcome;
+use answers::Refusal;
 use cells::inner::clear;
 use cells::inner::copy;
+use cells::inner::wide;
 use decode_prepare::inner::prepare;
-use field::Outcome;
-use field::Refusal;
 use field::inner::product;
 use field::inner::size;
-use field::inner::wide;
 ghost use mathlib.Core.Path.{_≡_};
 ghost use mathlib.Core.Bool.{cond};
 ghost use mathlib.Core.Option.{some, none};
 ghost use Prim.Native.Nat.{_≤_};
 ghost use lib.ListN.{length, take};
-ghost use Rattle.field.specs.Leaves.{left};
-ghost use Rattle.field.specs.Refusals.{toldOutcome};
+ghost use Rattle.answers.specs.Leaves.{left};
+ghost use Rattle.answers.specs.Refusals.{toldOutcome};
 ghost use Rattle.code.specs.Decoded.{decoded};
 ghost use Rattle.code.specs.Decoding.{decodeOf};
 ghost use Rattle.code.specs.Held.{held};

@@ -15,7 +15,7 @@ ghost use Prim.Native.Nat.{ℕ, _+_, _*_, _<_, _≤_};
 ghost use lib.ListN.{length, getD, take, drop};
 ghost use Rattle.field.specs.Field.{product, inverse};
 ghost use Rattle.field.specs.Points.{rootOf};
-ghost use Rattle.field.specs.Shape.{badShape};
+ghost use Rattle.limits.specs.Shape.{badShape};
 ghost use Rattle.field.specs.Size.{sizeOf};
 ghost use Rattle.poly.specs.Tab.{tab};
 ghost use Rattle.transform_halving.specs.Transform.{sums};

@@ -17,7 +17,7 @@ use Rattle.field.specs.Size.{levelOf, sizeOf}
 use Rattle.field.proofs.Congruence.{≈-refl, ≈-of, ≈-sym, _∘≈_, _·≈_, mul-≈, mod-≈, comb}
 use Rattle.field.proofs.Fermat.{no-divisors}
 use Rattle.field.proofs.Ring.{product-≈}
-use Rattle.field.proofs.Shape.{shape-good, longest-le}
+use Rattle.limits.proofs.Shape.{shape-good, longest-le}
 use Rattle.field.proofs.Size.{size-power, size-enough}
 use Rattle.poly.specs.Distinct.{Distinct}
 use Rattle.poly.specs.Every.{Every}

@@ -11,13 +11,13 @@ use lib.Seq.{length-take-le, take-at, drop-at, drop-append-add, drop-drop, getD-
 use Rattle.field.specs.Congruence.{_≈_}
 use Rattle.field.specs.Field.{product, power, inverse}
 use Rattle.field.specs.Points.{rootOf, pointOf}
-use Rattle.field.specs.Shape.{badShape}
+use Rattle.limits.specs.Shape.{badShape}
 use Rattle.field.specs.Size.{levelOf, sizeOf}
 use Rattle.field.specs.Symbol.{Symbols}
 use Rattle.field.proofs.Congruence.{≈-refl, ≈-of, ≈-sym, _∘≈_, mul-≈, mod-≈}
 use Rattle.field.proofs.Fermat.{inverse-≈, no-divisors}
 use Rattle.field.proofs.Ring.{product-≈, power-≈, power-lt}
-use Rattle.field.proofs.Shape.{shape-good, size-le, level-twice}
+use Rattle.limits.proofs.Shape.{shape-good, size-le, level-twice}
 use Rattle.field.proofs.Size.{size-size}
 use Rattle.poly.specs.Every.{Every}
 use Rattle.poly.specs.Products.{times, vanishing}

@@ -17,7 +17,7 @@ ghost use mathlib.Core.List.{_++_};
 ghost use Prim.Native.Nat.{_+_, _-_, _*_, _<_, _≤_};
 ghost use lib.ListN.{length, getD, take, drop, replicate};
 ghost use Rattle.field.specs.Field.{product, power, inverse};
-ghost use Rattle.field.specs.Shape.{badShape};
+ghost use Rattle.limits.specs.Shape.{badShape};
 ghost use Rattle.field.specs.Size.{levelOf, sizeOf};
 ghost use Rattle.poly.specs.Tab.{tab};
 ghost use Rattle.transform_halving.specs.Transform.{transformOf};

@@ -4,11 +4,5 @@ pub mod Table
 pub mod Ring
 pub mod Fermat
 pub mod Roots
-pub mod First
-pub mod Values
 pub mod Size
-pub mod Refusals
-pub mod Checks
-pub mod Leaves
-pub mod Shape
 pub mod Theorems

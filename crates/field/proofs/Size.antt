@@ -9,7 +9,7 @@ use borrow.Author.Tests.{leb-true, leb-false}
 use lib.Dec.{leb}
 use lib.Pow.{pow-mono, pow-lt}
 use Rattle.field.specs.Size.{levelOf, sizeOf}
-use Rattle.field.proofs.First.{first-le, first-holds, first-before}
+use Rattle.answers.proofs.First.{first-le, first-holds, first-before}
 
 pub level-le : (n : ℕ) → levelOf n ≤ 16
 unfolding levelOf

@@ -11,10 +11,9 @@ use Rattle.field.specs.Field.{product, power}
 use Rattle.field.specs.Points.{rootOf, pointOf}
 use Rattle.field.specs.Roots.{root}
 use Rattle.field.specs.Size.{levelOf, sizeOf}
-use Rattle.field.specs.Theorems.{CommutativeRing, Inverses, NoZeroDivisors, RootSquares, RootPowers, RootOrders, RootHalves, RootPowersDistinct, SizeSmallest, RootOfSize, PointsDistinct, RefusalsTold, SymbolSettled}
+use Rattle.field.specs.Theorems.{CommutativeRing, Inverses, NoZeroDivisors, RootSquares, RootPowers, RootOrders, RootHalves, RootPowersDistinct, SizeSmallest, RootOfSize, PointsDistinct, SymbolSettled}
 use Rattle.field.proofs.Congruence.{reduced}
 use Rattle.field.proofs.Fermat.{inverse-≈, no-divisors}
-use Rattle.field.proofs.Refusals as R
 use Rattle.field.proofs.Ring as Ring
 use Rattle.field.proofs.Roots as Roots
 use Rattle.field.proofs.Size.{level-le, level-size, size-enough, size-least}
@@ -82,9 +81,6 @@ root-of-size n = rw level-size (root-orders (levelOf n) (level-le n))
 pub points-distinct : PointsDistinct
 unfolding pointOf rootOf sizeOf
 points-distinct n i j li lj e = root-powers-distinct (levelOf n) (level-le n) i j li lj (simp level-size at e)
-
-pub refusals-told : RefusalsTold
-refusals-told = R.refusals-told
 
 pub symbol-settled : SymbolSettled
 symbol-settled v r s p q = p .is ∙ sym (q .is)

@@ -2,11 +2,6 @@ pub mod Field
 pub mod Symbol
 pub mod Congruence
 pub mod Roots
-pub mod Refusals
-pub mod Leaves
-pub mod First
-pub mod Values
 pub mod Size
-pub mod Shape
 pub mod Points
 pub mod Theorems

@@ -2,7 +2,7 @@
 use mathlib.Core.Path.{_≡_}
 use Prim.Native.Nat.{ℕ, _^_, _<_}
 use lib.Dec.{leb}
-use Rattle.field.specs.First.{first}
+use Rattle.answers.specs.First.{first}
 
 -- the index of N's root in the table: the first e below 16 for which 2 ^ e is at least n, else 16
 unfoldable pub levelOf : ℕ → ℕ

@@ -4,11 +4,9 @@ use mathlib.Core.Logic.{_⊎_}
 use Prim.Native.Nat.{ℕ, suc, _-_, _^_, _<_, _≤_}
 use Rattle.field.specs.Field.{sum, difference, product, power, inverse}
 use Rattle.field.specs.Points.{rootOf, pointOf}
-use Rattle.field.specs.Refusals.{refused}
 use Rattle.field.specs.Roots.{root, HasOrder}
 use Rattle.field.specs.Size.{sizeOf}
 use Rattle.field.specs.Symbol.{IsSymbol}
-use Rattle.field.specs.declared.refusal.Refusal.{Refusal}
 
 -- The field is a commutative ring
 
@@ -69,10 +67,6 @@ PointsDistinct =
     (n i j : ℕ) → i < sizeOf n → j < sizeOf n → pointOf (sizeOf n) i ≡ pointOf (sizeOf n) j → i ≡ j
 
 -- Each promise settles the answer: two outcomes that meet it are equal
-
--- number and place tell the refusal
-abbrev pub RefusalsTold : Type 0
-RefusalsTold = (x y : Refusal) → refused x ≡ refused y → x ≡ y
 
 -- what an inner function promises of a symbol settles it too
 abbrev pub SymbolSettled : Type 0

@@ -3,19 +3,12 @@
 use crate::points::Point;
 use crate::points::Position;
 ghost use mathlib.Core.Path.{_≡_};
-ghost use mathlib.Core.Bool.{_||_};
 ghost use Prim.Native.Nat.{_<_};
-ghost use lib.Dec.{ltb};
 ghost use Rattle.field.specs.Field.{sum, difference, product, power, inverse};
 ghost use Rattle.field.specs.Points.{pointOf};
 ghost use Rattle.field.specs.Roots.{root};
-ghost use Rattle.field.specs.Shape.{badShape};
 ghost use Rattle.field.specs.Size.{IsLevel, sizeOf};
 ghost use Rattle.field.specs.Symbol.{IsSymbol};
-ghost use Rattle.field.specs.Values.{firstAbove};
-
-// What n may be at most.
-pub const LONGEST: usize = 4096;
 
 // The root of order 2^i at index i: each is the square of the next one.
 const ROOTS: [u32; 17] = [
@@ -116,13 +109,6 @@ pub fn size(n: usize) -> usize
     1 << level(n)
 }
 
-// A number that stands in a lent list, as one to count with.
-pub fn wide(number: u32) -> usize
-    ensures { λ r. ⌜ r ≡ number ⌝ }
-{
-    number as usize
-}
-
 // In lent lists a position stands as a bare number.
 pub fn position(number: u32) -> Position
     ensures { λ r. ⌜ r .0 ≡ number ⌝ }
@@ -136,41 +122,4 @@ pub fn point(position: Position, size: usize) -> Point
 {
     let i = position.0;
     Point(power(root(level(size)), i))
-}
-
-// Whether SHAPE refuses a block of k message symbols and n coded ones.
-pub fn bad_shape(k: usize, n: usize) -> bool
-    ensures { λ r. ⌜ r ≡ badShape k n ⌝ }
-{
-    if k == 0 {
-        return true;
-    }
-    if n < k {
-        return true;
-    }
-    LONGEST < n
-}
-
-// Whether the output or the working space is shorter than stated.
-pub fn too_short(out: usize, needed: usize, work: usize, room: usize) -> bool
-    ensures { λ r. ⌜ r ≡ ltb out needed || ltb work room ⌝ }
-{
-    if out < needed {
-        return true;
-    }
-    work < room
-}
-
-// The index of the first value that is no symbol, the list's length where all are.
-pub fn first_above(values: &[u32]) -> usize
-    ensures { λ r. ⌜ r ≡ firstAbove (now (values .entry)) ⌝ }
-{
-    let mut i = 0;
-    while i < values.len() {
-        if 65536 < values[i] {
-            return i;
-        }
-        i += 1;
-    }
-    i
 }

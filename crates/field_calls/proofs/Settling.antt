@@ -2,7 +2,7 @@
 -- Assumes nothing.
 use mathlib.Core.Path.{_≡_, sym, ap}
 use Prim.Native.Nat.{ℕ}
-use Rattle.field.proofs.Refusals.{result-no-refusal, refusals-told}
+use Rattle.answers.proofs.Refusals.{result-no-refusal, refusals-told}
 use Rattle.field_calls.specs.Operations.{told}
 use Rattle.field_calls.specs.Points.{toldPoint}
 use Rattle.field_calls.specs.declared.operations.SymbolAnswer.{SymbolAnswer}

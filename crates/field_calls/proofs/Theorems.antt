@@ -1,7 +1,7 @@
 -- The proofs of specs/Theorems.antt, each under its name there in small letters.
 -- Assumes nothing.
 use mathlib.Core.Path.{sym, _∙_}
-use Rattle.field.specs.Refusals.{Answer}
+use Rattle.answers.specs.Refusals.{Answer}
 use Rattle.field_calls.specs.Theorems.{Settled, SumSettled, DifferenceSettled, ProductSettled, PowerSettled, InverseSettled, PointSettled}
 use Rattle.field_calls.proofs.Settling.{told-one, told-point-one}
 

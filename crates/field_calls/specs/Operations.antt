@@ -4,11 +4,11 @@ use mathlib.Core.List.{[], _∷_}
 use Prim.Native.Nat.{ℕ}
 use lib.Dec.{ltb, eqb}
 use Rattle.field.specs.Field.{sum, difference, product, power, inverse}
-use Rattle.field.specs.Refusals.{Answer, result, refused, refuseIf}
-use Rattle.field.specs.Values.{refuseAbove}
+use Rattle.answers.specs.Refusals.{Answer, result, refused, refuseIf}
+use Rattle.limits.specs.Values.{refuseAbove}
 use Rattle.field_calls.specs.declared.operations.SymbolAnswer.{SymbolAnswer}
 use Rattle.field_calls.specs.declared.operations.SymbolAnswer.the-variants.{Symbol, Refused}
-use Rattle.field.specs.declared.refusal.Refusal.the-variants.{Value}
+use Rattle.answers.specs.declared.refusal.Refusal.the-variants.{Value}
 
 -- an answer of the code, on paper
 abbrev pub told : SymbolAnswer → Answer

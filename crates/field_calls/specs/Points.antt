@@ -3,10 +3,10 @@ use mathlib.Core.List.{[], _∷_}
 use Prim.Native.Nat.{ℕ}
 use lib.Dec.{leb}
 use Rattle.field.specs.Points.{pointOf}
-use Rattle.field.specs.Refusals.{Answer, result, refused, refuseIf}
-use Rattle.field.specs.Shape.{badShape}
+use Rattle.answers.specs.Refusals.{Answer, result, refused, refuseIf}
+use Rattle.limits.specs.Shape.{badShape}
 use Rattle.field.specs.Size.{sizeOf}
-use Rattle.field.specs.declared.refusal.Refusal.the-variants.{Shape, Position}
+use Rattle.answers.specs.declared.refusal.Refusal.the-variants.{Shape, Position}
 use Rattle.field_calls.specs.declared.points.PointAnswer.{PointAnswer}
 use Rattle.field_calls.specs.declared.points.PointAnswer.the-variants as P
 

@@ -2,7 +2,7 @@
 -- the answer.
 use mathlib.Core.Path.{_≡_}
 use Prim.Native.Nat.{ℕ}
-use Rattle.field.specs.Refusals.{Answer}
+use Rattle.answers.specs.Refusals.{Answer}
 use Rattle.field_calls.specs.Operations.{told, sumAnswer, differenceAnswer, productAnswer, powerAnswer, inverseAnswer}
 use Rattle.field_calls.specs.Points.{toldPoint, pointAnswer}
 use Rattle.field_calls.specs.declared.operations.SymbolAnswer.{SymbolAnswer}

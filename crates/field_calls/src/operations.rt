@@ -1,10 +1,10 @@
 // The field operations that callers can reach: each tests its operands and refuses by VALUE.
-use field::Refusal;
+use answers::Refusal;
 use field::inner;
 ghost use mathlib.Core.Path.{_≡_};
 ghost use mathlib.Core.List.{[], _∷_};
-ghost use Rattle.field.specs.Refusals.{refused};
-ghost use Rattle.field.specs.Values.{firstAbove};
+ghost use Rattle.answers.specs.Refusals.{refused};
+ghost use Rattle.limits.specs.Values.{firstAbove};
 ghost use Rattle.field_calls.specs.Operations.{told, sumAnswer, differenceAnswer, productAnswer, powerAnswer, inverseAnswer};
 
 pub enum SymbolAnswer {
@@ -24,7 +24,7 @@ fn first_operand_above(a: u32, b: u32) -> usize
     ensures { λ r. ⌜ r ≡ firstAbove (a ∷ b ∷ []) ⌝ }
 {
     let operands = [a, b];
-    inner::first_above(&operands)
+    limits::first_above(&operands)
 }
 
 pub fn sum(a: u32, b: u32) -> SymbolAnswer

@@ -1,7 +1,7 @@
 // The point that a position of a code word stands for: the caller's length and position are tested, and refused by SHAPE and POSITION.
+use answers::Refusal;
 use field::Point;
 use field::Position;
-use field::Refusal;
 use field::inner;
 ghost use mathlib.Core.Path.{_≡_};
 ghost use Rattle.field_calls.specs.Points.{toldPoint, pointAnswer};
@@ -15,7 +15,7 @@ pub enum PointAnswer {
 pub fn point_at(n: usize, position: Position) -> PointAnswer
     ensures { λ r. ⌜ toldPoint r ≡ pointAnswer n (position .0) ⌝ }
 {
-    if inner::bad_shape(1, n) {
+    if limits::bad_shape(1, n) {
         return PointAnswer::Refused(Refusal::Shape);
     }
     let size = inner::size(n);

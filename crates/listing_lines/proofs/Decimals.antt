@@ -11,8 +11,8 @@ use native.Mathlib.Omega.{arith}
 use borrow.Author.Tests.{lt-ltb, le-ltb}
 use lib.Dec.{ltb}
 use lib.ListN.{take}
-use Rattle.field.specs.First.{first}
-use Rattle.field.proofs.First.{first-here, first-all}
+use Rattle.answers.specs.First.{first}
+use Rattle.answers.proofs.First.{first-here, first-all}
 use Rattle.io.specs.Digits.{digits, Fewest}
 use Rattle.listing_lines.specs.Text.{places, decimal}
 

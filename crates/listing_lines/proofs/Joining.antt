@@ -3,8 +3,8 @@
 use mathlib.Core.Path.{_≡_, refl, ap₂, _∙_}
 use mathlib.Core.List.{List, _++_, append-assoc}
 use Prim.Native.Nat.{ℕ}
-use Rattle.field.specs.Refusals.{numberOf, placeOf, refused}
-use Rattle.field.specs.declared.refusal.Refusal.{Refusal}
+use Rattle.answers.specs.Refusals.{numberOf, placeOf, refused}
+use Rattle.answers.specs.declared.refusal.Refusal.{Refusal}
 use Rattle.listing_lines.specs.Lines.{headerLine, entryLine, lastLine}
 use Rattle.listing_lines.specs.Text.{ascii, decimal}
 

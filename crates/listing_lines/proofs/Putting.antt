@@ -7,7 +7,7 @@ use native.Mathlib.Nat.{le-refl}
 use native.Mathlib.Omega.{arith}
 use lib.ListN.{length, take, drop, length-append, length-take, length-drop, take-append-drop}
 use lib.Seq.{drop-drop, drop-append-le}
-use Rattle.field.specs.Leaves.{written}
+use Rattle.answers.specs.Leaves.{written}
 use Rattle.bundle_storage.specs.Bytes.{put}
 use Rattle.bundle_storage.proofs.PutLaws.{put-front, put-more}
 use Rattle.listing_lines.specs.Puts.{Puts}

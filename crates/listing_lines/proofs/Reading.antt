@@ -9,8 +9,8 @@ use native.Mathlib.Omega.{arith}
 use borrow.Author.Tests.{lt-ltb, ltb-true, ltb-false}
 use lib.Dec.{ltb}
 use lib.ListN.{length, getD, length-append, List·getD-append}
-use Rattle.field.specs.First.{first}
-use Rattle.field.proofs.First.{first-le, first-before, first-holds}
+use Rattle.answers.specs.First.{first}
+use Rattle.answers.proofs.First.{first-le, first-before, first-holds}
 use Rattle.io.specs.Digits.{digits, glyph}
 use Rattle.listing_lines.specs.Text.{places, decimal}
 use Rattle.listing_lines.specs.Theorems.{Reads, nothing, further, DecimalValue}

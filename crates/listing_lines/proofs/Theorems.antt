@@ -1,7 +1,7 @@
 -- The proofs of specs/Theorems.antt, each under its name there in small letters.
 -- Assumes nothing.
 use mathlib.Core.Path.{refl}
-use Rattle.field.specs.First.{first}
+use Rattle.answers.specs.First.{first}
 use Rattle.listing_lines.specs.Text.{places, decimal}
 use Rattle.listing_lines.specs.Theorems.{DecimalValue, DecimalExamples}
 use Rattle.listing_lines.proofs.Reading as Reading

@@ -1,7 +1,7 @@
 -- The lines of the listing (document 01, "Worked numbers"). "Every line ends with a line feed."
 use mathlib.Core.List.{List, _++_}
 use Prim.Native.Nat.{ℕ}
-use Rattle.field.specs.Refusals.{Answer, result, refusal}
+use Rattle.answers.specs.Refusals.{Answer, result, refusal}
 use Rattle.listing_lines.specs.Text.{ascii, decimal}
 
 -- the first line, as in `k 2 n 4 length 4 held 4 blocks 1`

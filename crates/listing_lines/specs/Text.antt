@@ -4,7 +4,7 @@ use Prim.Native.Nat.{ℕ, suc, _^_}
 use Prim.Native.Char.{code}
 use Prim.Native.String as S
 use lib.Dec.{ltb}
-use Rattle.field.specs.First.{first}
+use Rattle.answers.specs.First.{first}
 use Rattle.io.specs.Digits.{digits}
 
 -- the characters' numbers

@@ -1,11 +1,11 @@
 // No entry points: each puts a line into lent bytes from an index on and answers where it ends. They ask that there is room for its longest form.
 use crate::words::put_number;
 use crate::words::put_text;
-use field::Refusal;
+use answers::Refusal;
 ghost use mathlib.Core.List.{[]};
 ghost use Prim.Native.Nat.{_+_, _≤_};
 ghost use lib.ListN.{length};
-ghost use Rattle.field.specs.Refusals.{result, refused};
+ghost use Rattle.answers.specs.Refusals.{result, refused};
 ghost use Rattle.listing_lines.specs.Lines.{headerLine, entryLine, lastLine};
 ghost use Rattle.listing_lines.specs.Puts.{Puts};
 

@@ -9,23 +9,22 @@ use native.Mathlib.Omega.{arith}
 use borrow.Author.Tests.{lt-ltb, le-ltb, ltb-false}
 use lib.Dec.{ltb}
 use lib.ListN.{length, getD, drop, replicate, length-append}
-use Rattle.field.specs.Leaves.{Leaves, left, written}
-use Rattle.field.specs.Refusals.{Answer, result, refusal, numberOf, refused, refuseIf, toldOutcome}
-use Rattle.field.specs.Shape.{longest}
+use Rattle.answers.specs.Leaves.{Leaves, left, written}
+use Rattle.answers.specs.Refusals.{Answer, result, refusal, numberOf, refused, refuseIf, toldOutcome, after}
+use Rattle.limits.specs.Shape.{longest}
 use Rattle.field.specs.Size.{sizeOf}
-use Rattle.field.specs.declared.refusal.Outcome.{Outcome}
-use Rattle.field.specs.declared.refusal.Outcome.the-variants.{Done, Refused}
-use Rattle.field.specs.declared.refusal.Refusal.{Refusal}
-use Rattle.field.specs.declared.refusal.Refusal.the-variants.{Shape, Room, Few, Form}
-use Rattle.field.proofs.Checks.{or-false}
+use Rattle.answers.specs.declared.refusal.Outcome.{Outcome}
+use Rattle.answers.specs.declared.refusal.Outcome.the-variants.{Done, Refused}
+use Rattle.answers.specs.declared.refusal.Refusal.{Refusal}
+use Rattle.answers.specs.declared.refusal.Refusal.the-variants.{Shape, Room, Few, Form}
+use Rattle.answers.proofs.Checks.{or-false}
 use Rattle.field.proofs.Size.{size-enough, size-least}
-use Rattle.bundle_layout.specs.Facts.{after}
 use Rattle.bundle_layout.specs.Fields.{kIn, nIn, lengthIn, heldIn, blocksIn}
 use Rattle.bundle_layout.specs.Layout.{badFront, restGood, layoutChecks}
 use Rattle.bundle_layout.specs.Rooms.{workRoom}
 use Rattle.bundle_layout.proofs.Passing.{n-limited, held-few}
 use Rattle.bundle_read.specs.Reading.{blocksAnswer}
-use Rattle.bundle_storage.specs.Blocks.{badBundleShape}
+use Rattle.bundle_layout.specs.Shape.{badBundleShape}
 use Rattle.bundle.specs.Calls.{readLeaves}
 use Rattle.bundle.specs.Checks.{roomChecks, readChecks}
 use Rattle.bundle.proofs.Walking.{read-answer}

@@ -7,11 +7,11 @@ use Prim.Native.Nat.{ℕ, _*_}
 use native.Mathlib.Omega.{arith}
 use lib.Dec.{lit≤}
 use lib.ListN.{length, replicate, length-replicate}
-use Rattle.field.specs.First.{first}
-use Rattle.field.specs.Leaves.{Leaves}
-use Rattle.field.specs.Refusals.{Answer, result}
+use Rattle.answers.specs.First.{first}
+use Rattle.answers.specs.Leaves.{Leaves}
+use Rattle.answers.specs.Refusals.{Answer, result}
 use Rattle.field.specs.Size.{levelOf, sizeOf}
-use Rattle.bundle_storage.specs.Blocks.{blocksOf}
+use Rattle.bundle_layout.specs.Blocks.{blocksOf}
 use Rattle.bundle_storage.specs.Bytes.{twoAt, fourAt}
 use Rattle.bundle_layout.specs.Fields.{kIn, nIn, lengthIn, heldIn, blocksIn, entryAt, positionIn, countIn, offsetIn}
 use Rattle.bundle_layout.specs.Layout.{badFront, layoutChecks}

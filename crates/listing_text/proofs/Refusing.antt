@@ -9,14 +9,13 @@ use Prim.Native.Nat.{ℕ, zero, suc, _<_}
 use borrow.Author.Tests.{lt-ltb, ltb-true, eqb-true}
 use lib.Dec.{ltb, eqb}
 use lib.ListN.{length}
-use Rattle.field.specs.Refusals.{Answer, result, refusal, numberOf, refused, refuseIf}
-use Rattle.field.specs.declared.refusal.Refusal.{Refusal}
-use Rattle.field.specs.declared.refusal.Refusal.the-variants.{Shape, Room, Few, Word, Tail, Form}
-use Rattle.bundle_layout.specs.Facts.{after}
+use Rattle.answers.specs.Refusals.{Answer, result, refusal, numberOf, refused, refuseIf, after}
+use Rattle.answers.specs.declared.refusal.Refusal.{Refusal}
+use Rattle.answers.specs.declared.refusal.Refusal.the-variants.{Shape, Room, Few, Word, Tail, Form}
 use Rattle.bundle_layout.specs.Fields.{kIn, nIn, lengthIn, heldIn, blocksIn}
 use Rattle.bundle_layout.specs.Layout.{badFront, restGood, layoutChecks}
 use Rattle.bundle_read.specs.Reading.{decodedAt, badWord, badTail, judged, blockAnswer, blocksAnswer}
-use Rattle.bundle_storage.specs.Blocks.{badBundleShape}
+use Rattle.bundle_layout.specs.Shape.{badBundleShape}
 use Rattle.listing_lines.specs.Lines.{lastLine}
 use Rattle.listing_text.specs.Answers.{mostInput, mostN, mostLength, servedAnswer, programAnswer}
 use Rattle.listing_text.specs.Listing.{listing, alone, printsAlone, printed}

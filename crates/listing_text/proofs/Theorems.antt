@@ -3,7 +3,7 @@
 use mathlib.Core.Path.{sym, ap, _∙_}
 use mathlib.Core.List.{List}
 use Prim.Native.Nat.{ℕ}
-use Rattle.field.specs.Leaves.{Leaves}
+use Rattle.answers.specs.Leaves.{Leaves}
 use Rattle.listing_text.specs.Theorems.{ReaderAnswers, ServesExactly, ListedWhole, ListedAfter, P11Listed, EmptyListed, ListSettled}
 use Rattle.listing_text.proofs.Answering.{shown, read-answers}
 use Rattle.listing_text.proofs.Examples as Examples

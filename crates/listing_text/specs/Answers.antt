@@ -4,9 +4,8 @@ use mathlib.Core.List.{List}
 use Prim.Native.Nat.{ℕ}
 use lib.Dec.{ltb}
 use lib.ListN.{length}
-use Rattle.field.specs.Refusals.{Answer, refuseIf}
-use Rattle.field.specs.declared.refusal.Refusal.the-variants.{Room, Few}
-use Rattle.bundle_layout.specs.Facts.{after}
+use Rattle.answers.specs.Refusals.{Answer, refuseIf, after}
+use Rattle.answers.specs.declared.refusal.Refusal.the-variants.{Room, Few}
 use Rattle.bundle_layout.specs.Fields.{kIn, nIn, lengthIn, heldIn, blocksIn}
 use Rattle.bundle_layout.specs.Layout.{layoutChecks}
 use Rattle.bundle_read.specs.Reading.{blocksAnswer}

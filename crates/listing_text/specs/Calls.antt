@@ -2,8 +2,8 @@
 use mathlib.Core.List.{List, [], _∷_}
 use Prim.Native.Nat.{ℕ}
 use lib.ListN.{length, replicate}
-use Rattle.field.specs.Leaves.{Leaves, left, written}
-use Rattle.field.specs.Refusals.{result}
+use Rattle.answers.specs.Leaves.{Leaves, left, written}
+use Rattle.answers.specs.Refusals.{result}
 use Rattle.listing_text.specs.Listing.{printed}
 
 -- room for the longest text: a first line of at most 128 bytes, 256 lines of at most 63, a last line of at most 50

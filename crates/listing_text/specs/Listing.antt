@@ -3,7 +3,7 @@ use mathlib.Core.Bool.{Bool, false, _||_, cond}
 use mathlib.Core.List.{List, [], _++_}
 use Prim.Native.Nat.{ℕ, zero, suc}
 use lib.Dec.{eqb}
-use Rattle.field.specs.Refusals.{Answer, result, refusal}
+use Rattle.answers.specs.Refusals.{Answer, result, refusal}
 use Rattle.bundle_layout.specs.Fields.{kIn, nIn, lengthIn, heldIn, blocksIn, positionIn, countIn, offsetIn}
 use Rattle.listing_lines.specs.Lines.{headerLine, entryLine, lastLine}
 use Rattle.listing_text.specs.Answers.{programAnswer}

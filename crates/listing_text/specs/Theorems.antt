@@ -4,9 +4,9 @@ use mathlib.Core.List.{List, [], _∷_, _++_}
 use mathlib.Core.Logic.{_⊎_, _↔_}
 use Prim.Native.Nat.{ℕ, _*_, _<_, _≤_}
 use lib.ListN.{length}
-use Rattle.field.specs.Leaves.{left}
-use Rattle.field.specs.Refusals.{result, refusal, refused}
-use Rattle.field.specs.declared.refusal.Refusal.the-variants.{Room}
+use Rattle.answers.specs.Leaves.{left}
+use Rattle.answers.specs.Refusals.{result, refusal, refused}
+use Rattle.answers.specs.declared.refusal.Refusal.the-variants.{Room}
 use Rattle.bundle_layout.specs.Fields.{nIn, lengthIn}
 use Rattle.bundle_layout.specs.Layout.{layoutChecks}
 use Rattle.bundle.specs.Calls.{readLeaves}

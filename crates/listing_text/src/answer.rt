@@ -1,4 +1,6 @@
 // What the program answers to its input. No entry points and for this crate alone: `list` asks its caller for the working space.
+use answers::Outcome;
+use answers::Refusal;
 use bundle::inner::work_room;
 use bundle_gather::inner::start;
 use bundle_layout::inner::held_in;
@@ -7,14 +9,11 @@ use bundle_layout::inner::layout_checks;
 use bundle_layout::inner::length_in;
 use bundle_layout::inner::n_in;
 use bundle_read::inner::read_blocks;
-use field::Outcome;
-use field::Refusal;
 ghost use mathlib.Core.Path.{_≡_};
 ghost use mathlib.Core.List.{[], _∷_};
 ghost use Prim.Native.Nat.{_*_, _≤_};
 ghost use lib.ListN.{length};
-ghost use Rattle.field.specs.Refusals.{result, toldOutcome};
-ghost use Rattle.bundle_layout.specs.Facts.{after};
+ghost use Rattle.answers.specs.Refusals.{result, toldOutcome, after};
 ghost use Rattle.bundle_layout.specs.Fields.{kIn, nIn, lengthIn, heldIn, blocksIn};
 ghost use Rattle.bundle_layout.specs.Layout.{layoutChecks};
 ghost use Rattle.bundle_layout.specs.Rooms.{workRoom};

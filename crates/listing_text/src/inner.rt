@@ -1,16 +1,16 @@
 // No entry point: the work of the listing program, which lends its memory for it.
 use crate::answer::judge;
 use crate::table::put_listing;
+use answers::Outcome;
 use cells::inner::clear;
-use field::Outcome;
 use listing_lines::inner::put_ok;
 use listing_lines::inner::put_refused;
 ghost use mathlib.Core.Path.{_≡_};
 ghost use mathlib.Core.List.{[], _∷_};
 ghost use Prim.Native.Nat.{_*_, _≤_};
 ghost use lib.ListN.{length};
-ghost use Rattle.field.specs.Leaves.{left};
-ghost use Rattle.field.specs.Refusals.{result};
+ghost use Rattle.answers.specs.Leaves.{left};
+ghost use Rattle.answers.specs.Refusals.{result};
 ghost use Rattle.listing_text.specs.Answers.{mostN};
 ghost use Rattle.listing_text.specs.Calls.{textRoom, listLeaves};
 ghost use Rattle.listing_text.specs.Listing.{alone as Listing·alone};

@@ -13,7 +13,7 @@ ghost use mathlib.Core.Path.{_≡_};
 ghost use mathlib.Core.List.{[]};
 ghost use Prim.Native.Nat.{_+_, _*_, _≤_};
 ghost use lib.ListN.{length};
-ghost use Rattle.field.specs.Refusals.{result};
+ghost use Rattle.answers.specs.Refusals.{result};
 ghost use Rattle.bundle_layout.specs.Fields.{heldIn};
 ghost use Rattle.bundle_layout.specs.Layout.{layoutChecks};
 ghost use Rattle.listing_lines.specs.Puts.{Puts};

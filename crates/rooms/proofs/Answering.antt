@@ -4,9 +4,9 @@ use mathlib.Core.Path.{_≡_, ap₂}
 use mathlib.Core.Bool.{Bool, false}
 use mathlib.Core.List.{[], _∷_}
 use Prim.Native.Nat.{ℕ}
-use Rattle.field.specs.Refusals.{result, refuseIf}
-use Rattle.field.specs.declared.refusal.Refusal.the-variants.{Shape}
-use Rattle.field.proofs.Checks.{goes-on}
+use Rattle.answers.specs.Refusals.{result, refuseIf}
+use Rattle.answers.specs.declared.refusal.Refusal.the-variants.{Shape}
+use Rattle.answers.proofs.Checks.{goes-on}
 
 -- o and w are what the document states
 pub tells : (o w : ℕ) {out work : ℕ} {bad : Bool} → bad ≡ false → out ≡ o → work ≡ w

@@ -9,13 +9,13 @@ use Prim.Native.Nat.{ℕ, zero, suc, _<_, _≤_, zero-le}
 use borrow.Author.Tests.{lt-ltb, le-ltb, eqb-false}
 use lib.Dec.{ltb, eqb}
 use lib.ListN.{length}
-use Rattle.field.specs.Leaves.{Leaves, unlessRefused}
-use Rattle.field.specs.Refusals.{Answer, result, refusal, refused, refuseIf, numberOf}
-use Rattle.field.specs.Shape.{badShape}
-use Rattle.field.specs.Values.{firstAbove, refuseAbove}
-use Rattle.field.specs.declared.refusal.Refusal.{Refusal}
-use Rattle.field.specs.declared.refusal.Refusal.the-variants.{Shape, Length, Room, Few, Position, Repeat, Value, Disagree, Word, Tail}
-use Rattle.field.proofs.Refusals.{result-no-refusal}
+use Rattle.answers.specs.Leaves.{Leaves, unlessRefused}
+use Rattle.answers.specs.Refusals.{Answer, result, refusal, refused, refuseIf, numberOf, after}
+use Rattle.limits.specs.Shape.{badShape}
+use Rattle.limits.specs.Values.{firstAbove, refuseAbove}
+use Rattle.answers.specs.declared.refusal.Refusal.{Refusal}
+use Rattle.answers.specs.declared.refusal.Refusal.the-variants.{Shape, Length, Room, Few, Position, Repeat, Value, Disagree, Word, Tail}
+use Rattle.answers.proofs.Refusals.{result-no-refusal}
 use Rattle.transform.specs.Calls.{judged, callLeaves}
 use Rattle.transform.specs.Lengths.{badLength}
 use Rattle.code.specs.Decoded.{decoded}
@@ -26,8 +26,8 @@ use Rattle.code.specs.Repeats.{firstRepeat}
 use Rattle.code.specs.Rooms.{encodeRoom, decodeRoom}
 use Rattle.block.specs.Calls.{encodeLeaves, decodeLeaves}
 use Rattle.block.specs.Checks.{encodeChecks, decodeChecks}
-use Rattle.bundle_storage.specs.Blocks.{blocksOf, badBundleShape}
-use Rattle.bundle_layout.specs.Facts.{after}
+use Rattle.bundle_layout.specs.Blocks.{blocksOf}
+use Rattle.bundle_layout.specs.Shape.{badBundleShape}
 use Rattle.bundle_layout.specs.Fields.{kIn, nIn, lengthIn, heldIn, blocksIn}
 use Rattle.bundle_layout.specs.Layout.{layoutChecks}
 use Rattle.bundle_layout.specs.Rooms.{writeRoom, workRoom}

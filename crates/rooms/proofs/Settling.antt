@@ -2,7 +2,7 @@
 -- Assumes nothing.
 use mathlib.Core.Path.{_≡_, sym, ap}
 use Prim.Native.Nat.{ℕ}
-use Rattle.field.proofs.Refusals.{result-no-refusal, refusals-told}
+use Rattle.answers.proofs.Refusals.{result-no-refusal, refusals-told}
 use Rattle.rooms.specs.Rooms.{toldRoom}
 use Rattle.rooms.specs.declared.answer.RoomAnswer.{RoomAnswer}
 use Rattle.rooms.specs.declared.answer.RoomAnswer.the-variants as R

@@ -2,13 +2,13 @@
 -- same sizes or the same bundle, whatever it is lent.
 use mathlib.Core.List.{List, [], _∷_}
 use Prim.Native.Nat.{ℕ}
-use Rattle.field.specs.Refusals.{Answer, result, refused, refuseIf}
-use Rattle.field.specs.Shape.{badShape}
-use Rattle.field.specs.declared.refusal.Refusal.the-variants.{Shape}
+use Rattle.answers.specs.Refusals.{Answer, result, refused, refuseIf, after}
+use Rattle.limits.specs.Shape.{badShape}
+use Rattle.answers.specs.declared.refusal.Refusal.the-variants.{Shape}
 use Rattle.transform.specs.Lengths.{badLength}
 use Rattle.code.specs.Rooms.{encodeRoom, decodeRoom}
-use Rattle.bundle_storage.specs.Blocks.{blocksOf, badBundleShape}
-use Rattle.bundle_layout.specs.Facts.{after}
+use Rattle.bundle_layout.specs.Blocks.{blocksOf}
+use Rattle.bundle_layout.specs.Shape.{badBundleShape}
 use Rattle.bundle_layout.specs.Fields.{nIn, lengthIn}
 use Rattle.bundle_layout.specs.Layout.{layoutChecks}
 use Rattle.bundle_layout.specs.Rooms.{writeRoom, workRoom}

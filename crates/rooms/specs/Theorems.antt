@@ -6,9 +6,9 @@ use mathlib.Core.Logic.{_⊎_}
 use Prim.Native.Nat.{ℕ, _<_, _≤_}
 use lib.Dec.{eqb}
 use lib.ListN.{length}
-use Rattle.field.specs.Leaves.{Leaves}
-use Rattle.field.specs.Refusals.{Answer, result, refusal, refused, refuseIf}
-use Rattle.field.specs.declared.refusal.Refusal.the-variants.{Length, Room}
+use Rattle.answers.specs.Leaves.{Leaves}
+use Rattle.answers.specs.Refusals.{Answer, result, refusal, refused, refuseIf}
+use Rattle.answers.specs.declared.refusal.Refusal.the-variants.{Length, Room}
 use Rattle.transform.specs.Calls.{transformLeaves, inverseLeaves}
 use Rattle.block.specs.Calls.{encodeLeaves, decodeLeaves}
 use Rattle.bundle.specs.Calls.{writeLeaves, readLeaves}

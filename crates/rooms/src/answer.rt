@@ -1,5 +1,5 @@
 // The answer of the calls that tell a room: how long the output and the working space have to be at least.
-use field::Refusal;
+use answers::Refusal;
 
 pub struct Room {
     pub out: usize,

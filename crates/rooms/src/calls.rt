@@ -2,15 +2,15 @@
 // can find memory first. The numbers are those that the call itself measures by.
 use crate::answer::Room;
 use crate::answer::RoomAnswer;
+use answers::Outcome;
+use answers::Refusal;
 use bundle::inner::work_room;
 use bundle_layout::inner::bad_bundle_shape;
 use bundle_layout::inner::blocks;
 use bundle_layout::inner::layout_checks;
 use bundle_layout::inner::length_in;
 use bundle_layout::inner::n_in;
-use field::Outcome;
-use field::Refusal;
-use field::inner::bad_shape;
+use limits::bad_shape;
 use transform::inner::bad_length;
 ghost use mathlib.Core.Path.{_≡_};
 ghost use Rattle.rooms.specs.Rooms.{toldRoom, transformRoomAnswer, encodeRoomAnswer, decodeRoomAnswer, writeRoomAnswer, readRoomAnswer};

@@ -4,11 +4,11 @@ use mathlib.Core.Path.{_≡_, refl, sym, ap, _∙_}
 use mathlib.Core.Bool.{Bool, true, false}
 use mathlib.Core.List.{List, [], _∷_}
 use Prim.Native.Nat.{ℕ}
-use Rattle.field.specs.Leaves.{Leaves, left}
-use Rattle.field.specs.Refusals.{Answer, result, refused, refuseIf, toldOutcome}
-use Rattle.field.specs.declared.refusal.Outcome.{Outcome}
-use Rattle.field.specs.declared.refusal.Refusal.{Refusal}
-use Rattle.field.specs.declared.refusal.Refusal.the-variants.{Shape}
+use Rattle.answers.specs.Leaves.{Leaves, left}
+use Rattle.answers.specs.Refusals.{Answer, result, refused, refuseIf, toldOutcome}
+use Rattle.answers.specs.declared.refusal.Outcome.{Outcome}
+use Rattle.answers.specs.declared.refusal.Refusal.{Refusal}
+use Rattle.answers.specs.declared.refusal.Refusal.the-variants.{Shape}
 use Rattle.transform.specs.Lengths.{badLength}
 use Rattle.bundle_layout.specs.Facts.{toldFacts, toldEntry}
 use Rattle.bundle_layout.specs.declared.facts.Entry.{Entry}

@@ -2,8 +2,8 @@
 use mathlib.Core.List.{List}
 use Prim.Native.Nat.{ℕ}
 use lib.ListN.{getD}
-use Rattle.field.specs.Leaves.{Leaves}
-use Rattle.field.specs.Refusals.{Answer, result, refusal}
+use Rattle.answers.specs.Leaves.{Leaves}
+use Rattle.answers.specs.Refusals.{Answer, result, refusal}
 use Rattle.answers.specs.Telling.{Returned, status-number, returned}
 
 -- where the result is one number, `number` takes it

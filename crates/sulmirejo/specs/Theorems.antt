@@ -2,8 +2,8 @@
 use mathlib.Core.Path.{_≡_}
 use mathlib.Core.List.{List}
 use Prim.Native.Nat.{ℕ}
-use Rattle.field.specs.Leaves.{Leaves}
-use Rattle.field.specs.Refusals.{Answer}
+use Rattle.answers.specs.Leaves.{Leaves}
+use Rattle.answers.specs.Refusals.{Answer}
 use Rattle.field_calls.specs.Points.{pointAnswer}
 use Rattle.transform.specs.Calls.{transformLeaves, inverseLeaves}
 use Rattle.block.specs.Calls.{encodeLeaves, decodeLeaves}

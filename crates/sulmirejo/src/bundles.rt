@@ -1,9 +1,9 @@
 // The part of the face that has to do with bundles: the writer, the reader, and what a bundle's header and table say.
+use answers::Outcome;
 use answers::tell;
 use bundle::LengthAnswer;
 use bundle_layout::EntryAnswer;
 use bundle_layout::FactsAnswer;
-use field::Outcome;
 ghost use mathlib.Core.Path.{_≡_};
 ghost use Rattle.bundle_layout.specs.Facts.{factsAnswer, entryAnswer};
 ghost use Rattle.bundle.specs.Answers.{toldLength};

@@ -3,8 +3,8 @@
 mod bundles;
 mod room;
 
+use answers::Outcome;
 use answers::tell;
-use field::Outcome;
 use field::Position;
 use field_calls::PointAnswer;
 ghost use mathlib.Core.Path.{_≡_};

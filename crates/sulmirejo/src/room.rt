@@ -1,6 +1,6 @@
 // The part of the face that tells how much room a call asks for.
+use answers::Outcome;
 use answers::tell;
-use field::Outcome;
 use rooms::RoomAnswer;
 ghost use mathlib.Core.Path.{_≡_};
 ghost use Rattle.rooms.specs.Rooms.{toldRoom, transformRoomAnswer, encodeRoomAnswer, decodeRoomAnswer, writeRoomAnswer, readRoomAnswer};

@@ -7,13 +7,13 @@ use Prim.Native.Nat.{ℕ, _≤_}
 use borrow.Author.Tests.{ltb-false, eqb-true, not-false}
 use lib.Dec.{ltb, eqb}
 use lib.ListN.{length}
-use Rattle.field.specs.Refusals.{result}
-use Rattle.field.specs.Shape.{longest}
+use Rattle.answers.specs.Refusals.{result}
+use Rattle.limits.specs.Shape.{longest}
 use Rattle.field.specs.Size.{sizeOf}
-use Rattle.field.specs.Values.{firstAbove}
-use Rattle.field.specs.declared.refusal.Refusal.the-variants.{Shape, Room, Value}
-use Rattle.field.proofs.Checks.{passed, or-false}
-use Rattle.field.proofs.Values.{all-symbols}
+use Rattle.limits.specs.Values.{firstAbove}
+use Rattle.answers.specs.declared.refusal.Refusal.the-variants.{Shape, Room, Value}
+use Rattle.answers.proofs.Checks.{passed, or-false}
+use Rattle.limits.proofs.Values.{all-symbols}
 use Rattle.transform.specs.Calls.{judged}
 use Rattle.transform.specs.Lengths.{badLength}
 use Rattle.transform_halving.specs.Ready.{Ready}

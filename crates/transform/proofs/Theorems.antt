@@ -8,10 +8,10 @@ use native.Mathlib.Omega.{arith}
 use borrow.Author.Tests.{ltb-false, le-ltb, eq-eqb, ne-eqb}
 use lib.Dec.{ltb, eqb}
 use lib.Pow.{pow-pos, pow-lt}
-use Rattle.field.specs.Shape.{longest}
+use Rattle.limits.specs.Shape.{longest}
 use Rattle.field.specs.Size.{levelOf, sizeOf}
-use Rattle.field.proofs.Checks.{or-false}
-use Rattle.field.proofs.Leaves.{settled}
+use Rattle.answers.proofs.Checks.{or-false}
+use Rattle.answers.proofs.Leaves.{settled}
 use Rattle.field.proofs.Size.{size-power, size-of-power}
 use Rattle.transform.specs.Lengths.{badLength}
 use Rattle.transform.specs.Theorems.{GoodLengths, TransformSettled, InverseSettled}

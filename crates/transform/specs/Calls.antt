@@ -4,10 +4,10 @@ use mathlib.Core.List.{List, []}
 use Prim.Native.Nat.{ℕ}
 use lib.Dec.{ltb}
 use lib.ListN.{length}
-use Rattle.field.specs.Leaves.{Leaves, left, unlessRefused, zeroed}
-use Rattle.field.specs.Refusals.{Answer, result, refuseIf}
-use Rattle.field.specs.Values.{refuseAbove}
-use Rattle.field.specs.declared.refusal.Refusal.the-variants.{Shape, Room}
+use Rattle.answers.specs.Leaves.{Leaves, left, unlessRefused, zeroed}
+use Rattle.answers.specs.Refusals.{Answer, result, refuseIf}
+use Rattle.limits.specs.Values.{refuseAbove}
+use Rattle.answers.specs.declared.refusal.Refusal.the-variants.{Shape, Room}
 use Rattle.transform.specs.Lengths.{badLength}
 use Rattle.transform_halving.specs.Transform.{transformOf, inverseOf}
 

@@ -2,7 +2,7 @@
 use mathlib.Core.Bool.{Bool, _||_, not}
 use Prim.Native.Nat.{ℕ}
 use lib.Dec.{ltb, eqb}
-use Rattle.field.specs.Shape.{longest}
+use Rattle.limits.specs.Shape.{longest}
 use Rattle.field.specs.Size.{sizeOf}
 
 -- `sizeOf N` is the smallest power of two that is at least N

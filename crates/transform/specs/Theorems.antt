@@ -4,8 +4,8 @@ use mathlib.Core.Bool.{false}
 use mathlib.Core.List.{List}
 use mathlib.Core.Logic.{_↔_}
 use Prim.Native.Nat.{ℕ, _^_, _≤_}
-use Rattle.field.specs.Leaves.{Settled}
-use Rattle.field.specs.Shape.{longest}
+use Rattle.answers.specs.Leaves.{Settled}
+use Rattle.limits.specs.Shape.{longest}
 use Rattle.transform.specs.Calls.{transformLeaves, inverseLeaves}
 use Rattle.transform.specs.Lengths.{badLength}
 

@@ -1,11 +1,11 @@
 // The entry points: they test their input, refuse by SHAPE, ROOM and VALUE, and work in the list that they are lent.
 use crate::checks::judge;
+use answers::Outcome;
 use cells::inner::clear;
-use field::Outcome;
 use transform_halving::inner;
 ghost use mathlib.Core.Path.{_≡_};
-ghost use Rattle.field.specs.Leaves.{left};
-ghost use Rattle.field.specs.Refusals.{toldOutcome};
+ghost use Rattle.answers.specs.Leaves.{left};
+ghost use Rattle.answers.specs.Refusals.{toldOutcome};
 ghost use Rattle.transform.specs.Calls.{oneOf, callLeaves, transformLeaves, inverseLeaves};
 ghost use Rattle.transform_halving.specs.Ready.{Ready};
 

@@ -1,11 +1,11 @@
 // The checks of both entry points, in document 01's order. They write nothing.
-use field::Outcome;
-use field::Refusal;
-use field::inner::LONGEST;
-use field::inner::first_above;
+use answers::Outcome;
+use answers::Refusal;
 use field::inner::size;
+use limits::LONGEST;
+use limits::first_above;
 ghost use mathlib.Core.Path.{_≡_};
-ghost use Rattle.field.specs.Refusals.{toldOutcome};
+ghost use Rattle.answers.specs.Refusals.{toldOutcome};
 ghost use Rattle.transform.specs.Calls.{judged};
 ghost use Rattle.transform.specs.Lengths.{badLength};
 

@@ -7,20 +7,20 @@ use native.Mathlib.Nat.{mod-lt}
 use native.Mathlib.Omega.{arith}
 use lib.Dec.{lit<, lit≤}
 use lib.ListN.{length, getD}
+use Rattle.answers.specs.First.{first}
 use Rattle.field.specs.Field.{power, inverse}
-use Rattle.field.specs.First.{first}
 use Rattle.field.specs.Points.{rootOf, pointOf}
 use Rattle.field.specs.Roots.{roots, root}
 use Rattle.field.specs.Size.{levelOf}
 use Rattle.field.specs.Symbol.{Symbols}
-use Rattle.field.specs.Values.{firstAbove}
 use Rattle.field.proofs.Congruence.{≈-sym, mod-≈}
 use Rattle.field.proofs.Ring.{product-lt}
 use Rattle.field.proofs.Size.{level-power}
-use Rattle.field.proofs.Values.{all-symbols}
+use Rattle.poly.specs.Every.{Every}
 use Rattle.poly.specs.Sum.{total}
 use Rattle.poly.specs.Tab.{tab}
 use Rattle.poly.specs.Value.{value}
+use Rattle.poly.proofs.Symbols.{symbols-at}
 use Rattle.poly.proofs.Tab.{tab-at}
 use Rattle.poly.proofs.Value.{value-≈}
 use Rattle.transform_halving.specs.Theorems.{HalvingIsSum, HalvedIsHalving, TransformIsValue, TransformSymbols, InverseUndoes, TransformUndoes, WorkedNumbers}
@@ -70,8 +70,8 @@ pub transform-undoes : TransformUndoes
 transform-undoes e h a long small = Undo.transform-undoes a (ready-of e h a long small)
 
 four : Symbols (1 ∷ 2 ∷ 0 ∷ 0 ∷ [])
-unfolding firstAbove first
-four = all-symbols (1 ∷ 2 ∷ 0 ∷ 0 ∷ []) {x = 4} refl (lit≤ tt)
+unfolding Every
+four = symbols-at (1 ∷ 2 ∷ 0 ∷ 0 ∷ []) (lit< tt, (lit< tt, (lit< tt, (lit< tt, tt))))
 
 third : transformOf (1 ∷ 2 ∷ 0 ∷ 0 ∷ []) ≡ 3 ∷ 65026 ∷ 65536 ∷ 513 ∷ []
 unfolding transformOf sums tab total rootOf root roots levelOf first

@@ -1,5 +1,5 @@
 // One line for each case.
-use field::Refusal;
+use answers::Refusal;
 use field_calls::PointAnswer;
 use field_calls::SymbolAnswer;
 use libc::STDOUT_FILENO;

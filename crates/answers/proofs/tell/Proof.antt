@@ -2,8 +2,8 @@
 -- Assumes nothing.
 use mathlib.Core.Path.{sym, ap, _∙_}
 use borrow.Author.Needs.{needs}
-use Rattle.field.specs.Refusals.{toldOutcome}
-use Rattle.field.specs.declared.refusal.Outcome.{Outcome}
+use Rattle.answers.specs.Refusals.{toldOutcome}
+use Rattle.answers.specs.declared.refusal.Outcome.{Outcome}
 use Rattle.answers.specs.Telling.{returned}
 use Rattle.answers.proofs.Returned.{refused-returned}
 use Rattle.answers.proofs.tell.Statement.{statement}

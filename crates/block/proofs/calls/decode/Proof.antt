@@ -7,7 +7,7 @@ use native.Mathlib.Omega.{arith}
 use borrow.Author.Needs.{needs}
 use lib.ListN.{length}
 use lib.Seq.{length-front}
-use Rattle.field.proofs.Leaves.{told-done, told-refused, leaves-done, leaves-refused, lent-length}
+use Rattle.answers.proofs.Leaves.{told-done, told-refused, leaves-done, leaves-refused, lent-length}
 use Rattle.block.specs.Checks.{decodeChecks}
 use Rattle.code.specs.Decoding.{decodeOf}
 use Rattle.code.specs.Held.{held}

@@ -8,9 +8,9 @@ use native.Mathlib.Omega.{arith}
 use borrow.Author.Needs.{needs}
 use lib.ListN.{length}
 use lib.Seq.{length-front}
-use Rattle.field.specs.Leaves.{left}
-use Rattle.field.specs.Refusals.{result}
-use Rattle.field.proofs.Leaves.{told-done, told-refused, leaves-done, leaves-refused, lent-length, zeroed-part}
+use Rattle.answers.specs.Leaves.{left}
+use Rattle.answers.specs.Refusals.{result}
+use Rattle.answers.proofs.Leaves.{told-done, told-refused, leaves-done, leaves-refused, lent-length, zeroed-part}
 use Rattle.block.specs.Checks.{encodeChecks}
 use Rattle.block.proofs.Passing.{encode-passed}
 use Rattle.block.proofs.calls.encode.Statement.{statement}

@@ -9,13 +9,13 @@ use borrow.Author.Needs.{needs}
 use borrow.Author.Tests.{lt-ltb, le-ltb, eq-eqb, ne-eqb}
 use lib.Dec.{ltb}
 use lib.ListN.{length}
-use Rattle.field.specs.Refusals.{Answer, result, refused, refuseIf}
-use Rattle.field.specs.Shape.{longest, badShape}
-use Rattle.field.specs.Values.{firstAbove, refuseAbove}
-use Rattle.field.specs.declared.refusal.Refusal.the-variants.{Shape, Length, Room, Few, Position, Repeat, Value}
-use Rattle.field.proofs.Checks.{stops, goes-on, stops-at, passes-all}
-use Rattle.field.proofs.Shape.{shape-good}
-use Rattle.field.proofs.Values.{above-found, above-none}
+use Rattle.answers.specs.Refusals.{Answer, result, refused, refuseIf}
+use Rattle.limits.specs.Shape.{longest, badShape}
+use Rattle.limits.specs.Values.{firstAbove, refuseAbove}
+use Rattle.answers.specs.declared.refusal.Refusal.the-variants.{Shape, Length, Room, Few, Position, Repeat, Value}
+use Rattle.answers.proofs.Checks.{stops, goes-on, stops-at, passes-all}
+use Rattle.limits.proofs.Shape.{shape-good}
+use Rattle.limits.proofs.Values.{above-found, above-none}
 use Rattle.block.specs.Checks.{decodeChecks}
 use Rattle.code.specs.Held.{held}
 use Rattle.code.specs.Positions.{Inside, firstOutside}

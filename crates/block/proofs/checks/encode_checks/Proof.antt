@@ -6,9 +6,9 @@ use Prim.Native.Nat.{ℕ}
 use borrow.Author.Needs.{needs}
 use borrow.Author.Tests.{eq-eqb, ne-eqb}
 use lib.Dec.{ltb}
-use Rattle.field.specs.declared.refusal.Refusal.the-variants.{Shape, Length, Room}
-use Rattle.field.proofs.Checks.{stops, goes-on}
-use Rattle.field.proofs.Values.{above-found, above-none}
+use Rattle.answers.specs.declared.refusal.Refusal.the-variants.{Shape, Length, Room}
+use Rattle.answers.proofs.Checks.{stops, goes-on}
+use Rattle.limits.proofs.Values.{above-found, above-none}
 use Rattle.block.specs.Checks.{encodeChecks}
 use Rattle.code.specs.Rooms.{encodeRoom}
 use Rattle.block.proofs.checks.encode_checks.Statement.{statement}

@@ -7,7 +7,7 @@ use native.Mathlib.Omega.{arith}
 use borrow.Author.Needs.{needs}
 use lib.ListN.{length}
 use lib.Seq.{length-front}
-use Rattle.field.proofs.Leaves.{told-done, told-refused, leaves-done, leaves-refused, lent-length}
+use Rattle.answers.proofs.Leaves.{told-done, told-refused, leaves-done, leaves-refused, lent-length}
 use Rattle.bundle_layout.specs.Fields.{blocksIn}
 use Rattle.bundle_layout.proofs.Passing.{header-inside}
 use Rattle.bundle.specs.Checks.{readChecks}

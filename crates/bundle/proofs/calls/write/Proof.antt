@@ -8,9 +8,9 @@ use native.Mathlib.Omega.{arith}
 use borrow.Author.Needs.{needs}
 use lib.ListN.{length, drop, replicate}
 use lib.Seq.{length-front}
-use Rattle.field.specs.Leaves.{left, written, zeroed}
-use Rattle.field.specs.Refusals.{result}
-use Rattle.field.proofs.Leaves.{told-done, told-refused, leaves-done, leaves-refused, lent-length, zeroed-part}
+use Rattle.answers.specs.Leaves.{left, written, zeroed}
+use Rattle.answers.specs.Refusals.{result}
+use Rattle.answers.proofs.Leaves.{told-done, told-refused, leaves-done, leaves-refused, lent-length, zeroed-part}
 use Rattle.bundle.specs.Checks.{writeChecks}
 use Rattle.bundle_file.specs.File.{fileBundle}
 use Rattle.bundle.proofs.Passing.{write-passed}

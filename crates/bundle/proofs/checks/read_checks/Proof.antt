@@ -4,10 +4,9 @@ use mathlib.Core.Path.{_≡_, sym, ap, _∙_}
 use mathlib.Core.List.{List, []}
 use Prim.Native.Nat.{ℕ}
 use borrow.Author.Needs.{needs}
-use Rattle.field.specs.Refusals.{Answer, result, refused}
-use Rattle.field.specs.declared.refusal.Refusal.{Refusal}
-use Rattle.field.proofs.Leaves.{told-done, told-refused}
-use Rattle.bundle_layout.specs.Facts.{after}
+use Rattle.answers.specs.Refusals.{Answer, result, refused, after}
+use Rattle.answers.specs.declared.refusal.Refusal.{Refusal}
+use Rattle.answers.proofs.Leaves.{told-done, told-refused}
 use Rattle.bundle_layout.specs.Layout.{layoutChecks}
 use Rattle.bundle.specs.Checks.{roomChecks, readChecks}
 use Rattle.bundle.proofs.checks.read_checks.Statement.{statement}

@@ -7,9 +7,9 @@ use Prim.Native.Nat.{ℕ, _<_, _≤_}
 use borrow.Author.Needs.{needs}
 use borrow.Author.Tests.{lt-ltb, le-ltb}
 use lib.Dec.{ltb}
-use Rattle.field.specs.Refusals.{result, refused}
-use Rattle.field.specs.declared.refusal.Refusal.the-variants.{Room, Few}
-use Rattle.field.proofs.Checks.{stops, goes-on}
+use Rattle.answers.specs.Refusals.{result, refused}
+use Rattle.answers.specs.declared.refusal.Refusal.the-variants.{Room, Few}
+use Rattle.answers.proofs.Checks.{stops, goes-on}
 use Rattle.bundle_layout.specs.Fields.{kIn, nIn, lengthIn, heldIn}
 use Rattle.bundle_layout.proofs.Passing.{header-inside}
 use Rattle.bundle.specs.Checks.{roomChecks}

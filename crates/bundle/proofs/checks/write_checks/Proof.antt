@@ -6,10 +6,11 @@ use mathlib.Core.List.{[]}
 use Prim.Native.Nat.{ℕ}
 use borrow.Author.Needs.{needs}
 use lib.Dec.{ltb}
-use Rattle.field.specs.Refusals.{result, refused}
-use Rattle.field.specs.declared.refusal.Refusal.the-variants.{Shape, Room}
-use Rattle.field.proofs.Checks.{stops, goes-on}
-use Rattle.bundle_storage.specs.Blocks.{blocksOf, badBundleShape}
+use Rattle.answers.specs.Refusals.{result, refused}
+use Rattle.answers.specs.declared.refusal.Refusal.the-variants.{Shape, Room}
+use Rattle.answers.proofs.Checks.{stops, goes-on}
+use Rattle.bundle_layout.specs.Blocks.{blocksOf}
+use Rattle.bundle_layout.specs.Shape.{badBundleShape}
 use Rattle.bundle_layout.proofs.Passing.{countable, measurable}
 use Rattle.bundle.specs.Checks.{writeChecks}
 use Rattle.bundle_layout.specs.Rooms.{writeRoom, workRoom}

@@ -3,7 +3,7 @@
 use native.Mathlib.Nat.{mul-le-mul}
 use native.Mathlib.Omega.{arith}
 use borrow.Author.Needs.{needs}
-use Rattle.field.specs.Shape.{longest}
+use Rattle.limits.specs.Shape.{longest}
 use Rattle.bundle_storage.specs.Blocks.{mostBlocks}
 use Rattle.bundle_layout.specs.Shadows.{headerSize, entrySize, firstBody}
 use Rattle.bundle_layout.specs.Rooms.{writeRoom}

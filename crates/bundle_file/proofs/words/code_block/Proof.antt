@@ -2,7 +2,7 @@
 -- Assumes nothing.
 use native.Mathlib.Omega.{arith}
 use borrow.Author.Needs.{needs}
-use Rattle.field.specs.Shape.{longest}
+use Rattle.limits.specs.Shape.{longest}
 use Rattle.field.proofs.Size.{size-enough}
 use Rattle.bundle_storage.specs.Blocks.{mostBlocks}
 use Rattle.bundle_layout.proofs.Holding.{limits}

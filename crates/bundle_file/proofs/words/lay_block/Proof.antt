@@ -5,7 +5,7 @@ use native.Mathlib.Nat.{mul-le-mul}
 use native.Mathlib.Omega.{arith}
 use borrow.Author.Needs.{needs}
 use lib.Seq.{length-take-le}
-use Rattle.field.specs.Shape.{longest}
+use Rattle.limits.specs.Shape.{longest}
 use Rattle.bundle_storage.specs.Blocks.{mostBlocks}
 use Rattle.bundle_file.proofs.Messages.{laid-block}
 use Rattle.bundle_file.proofs.words.lay_block.Statement.{statement}

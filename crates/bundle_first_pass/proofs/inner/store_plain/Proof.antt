@@ -5,8 +5,9 @@ use Prim.Native.Nat.{ℕ, suc, _-_, _<_, _≤_}
 use native.Mathlib.Omega.{arith}
 use borrow.Author.Needs.{needs}
 use lib.ListN.{length}
-use Rattle.field.specs.Shape.{longest}
-use Rattle.bundle_storage.specs.Blocks.{blocksOf, longestFile}
+use Rattle.limits.specs.Shape.{longest}
+use Rattle.bundle_layout.specs.Blocks.{blocksOf}
+use Rattle.bundle_layout.specs.Shape.{longestFile}
 use Rattle.bundle_layout.specs.Shadows.{headerSize, entrySize, firstBody}
 use Rattle.bundle_layout.proofs.Holding.{limits}
 use Rattle.bundle_front.proofs.Bundling.{symbol-small}

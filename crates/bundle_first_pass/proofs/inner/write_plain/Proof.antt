@@ -6,8 +6,9 @@ use native.Mathlib.Numerals.{add-one}
 use native.Mathlib.Omega.{arith}
 use borrow.Author.Needs.{needs}
 use lib.ListN.{length}
-use Rattle.field.specs.Shape.{longest}
-use Rattle.bundle_storage.specs.Blocks.{blocksOf, longestFile}
+use Rattle.limits.specs.Shape.{longest}
+use Rattle.bundle_layout.specs.Blocks.{blocksOf}
+use Rattle.bundle_layout.specs.Shape.{longestFile}
 use Rattle.bundle_layout.proofs.Holding.{limits}
 use Rattle.bundle_file.specs.Counts.{Counted}
 use Rattle.bundle_file.proofs.Counting.{n-fits, counted-none}

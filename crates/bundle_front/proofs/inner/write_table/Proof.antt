@@ -5,9 +5,10 @@ use Prim.Native.Nat.{_+_, _-_, _≤_}
 use native.Mathlib.Omega.{arith}
 use borrow.Author.Needs.{needs}
 use lib.ListN.{length}
-use Rattle.field.specs.Shape.{longest}
+use Rattle.limits.specs.Shape.{longest}
 use Rattle.field.proofs.Size.{size-small}
-use Rattle.bundle_storage.specs.Blocks.{blocksOf, longestFile}
+use Rattle.bundle_layout.specs.Blocks.{blocksOf}
+use Rattle.bundle_layout.specs.Shape.{longestFile}
 use Rattle.bundle_layout.specs.Fields.{entryAt}
 use Rattle.bundle_layout.specs.Shadows.{headerSize, entrySize, firstBody}
 use Rattle.bundle_storage.specs.Storage.{countOf}

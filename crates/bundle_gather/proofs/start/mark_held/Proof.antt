@@ -6,7 +6,7 @@ use Prim.Native.Nat.{ℕ, _-_, _<_, _≤_}
 use native.Mathlib.Omega.{arith}
 use borrow.Author.Needs.{needs}
 use lib.ListN.{length}
-use Rattle.field.specs.Refusals.{result}
+use Rattle.answers.specs.Refusals.{result}
 use Rattle.field.specs.Size.{sizeOf}
 use Rattle.bundle_layout.specs.Fields.{nIn, heldIn, positionIn}
 use Rattle.bundle_layout.specs.Layout.{layoutChecks}

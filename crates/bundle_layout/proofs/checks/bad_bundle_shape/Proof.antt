@@ -4,8 +4,9 @@ use mathlib.Core.Path.{sym, _∙_}
 use native.Mathlib.Omega.{arith}
 use borrow.Author.Needs.{needs}
 use borrow.Author.Tests.{lt-ltb, le-ltb}
-use Rattle.field.proofs.Shape.{shape-good}
-use Rattle.bundle_storage.specs.Blocks.{longestFile, mostBlocks, badBundleShape}
+use Rattle.limits.proofs.Shape.{shape-good}
+use Rattle.bundle_storage.specs.Blocks.{mostBlocks}
+use Rattle.bundle_layout.specs.Shape.{longestFile, badBundleShape}
 use Rattle.bundle_layout.proofs.checks.bad_bundle_shape.Statement.{statement}
 use Rattle.bundle_layout.proofs.checks.bad_bundle_shape.Tie as tie
 

@@ -7,10 +7,10 @@ use native.Mathlib.Omega.{arith}
 use borrow.Author.Needs.{needs}
 use borrow.Author.Tests.{le-leb, lt-leb}
 use lib.ListN.{length}
-use Rattle.field.specs.Refusals.{result, refused}
-use Rattle.field.specs.declared.refusal.Refusal.{Refusal}
-use Rattle.field.specs.declared.refusal.Refusal.the-variants.{Position}
-use Rattle.field.proofs.Leaves.{told-done, told-refused}
+use Rattle.answers.specs.Refusals.{result, refused}
+use Rattle.answers.specs.declared.refusal.Refusal.{Refusal}
+use Rattle.answers.specs.declared.refusal.Refusal.the-variants.{Position}
+use Rattle.answers.proofs.Leaves.{told-done, told-refused}
 use Rattle.bundle_layout.specs.Facts.{entryAnswer}
 use Rattle.bundle_layout.specs.Fields.{heldIn, entryAt, positionIn, countIn, offsetIn}
 use Rattle.bundle_layout.specs.Layout.{layoutChecks}

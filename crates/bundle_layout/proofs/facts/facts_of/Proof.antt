@@ -6,11 +6,12 @@ use Prim.Native.Nat.{ℕ, _<_, _≤_}
 use native.Mathlib.Omega.{arith}
 use borrow.Author.Needs.{needs}
 use lib.ListN.{length}
-use Rattle.field.specs.Refusals.{result, refused}
-use Rattle.field.specs.Shape.{longest}
-use Rattle.field.specs.declared.refusal.Refusal.{Refusal}
-use Rattle.field.proofs.Leaves.{told-done, told-refused}
-use Rattle.bundle_storage.specs.Blocks.{blocksOf, longestFile}
+use Rattle.answers.specs.Refusals.{result, refused}
+use Rattle.limits.specs.Shape.{longest}
+use Rattle.answers.specs.declared.refusal.Refusal.{Refusal}
+use Rattle.answers.proofs.Leaves.{told-done, told-refused}
+use Rattle.bundle_layout.specs.Blocks.{blocksOf}
+use Rattle.bundle_layout.specs.Shape.{longestFile}
 use Rattle.bundle_layout.specs.Facts.{factsAnswer}
 use Rattle.bundle_layout.specs.Fields.{kIn, nIn, lengthIn, heldIn, blocksIn}
 use Rattle.bundle_layout.specs.Layout.{layoutChecks}

@@ -1,8 +1,9 @@
 -- `bundle_layout::inner::blocks` meets its contract: the rounding up is the definition's, and all fits.
 -- Assumes nothing.
 use borrow.Author.Needs.{needs}
-use Rattle.field.specs.Shape.{longest}
-use Rattle.bundle_storage.specs.Blocks.{blocksOf, longestFile}
+use Rattle.limits.specs.Shape.{longest}
+use Rattle.bundle_layout.specs.Blocks.{blocksOf}
+use Rattle.bundle_layout.specs.Shape.{longestFile}
 use Rattle.bundle_layout.proofs.inner.blocks.Statement.{statement}
 use Rattle.bundle_layout.proofs.inner.blocks.Tie as tie
 

@@ -2,7 +2,7 @@
 -- Assumes nothing.
 use mathlib.Core.Path.{ap₂, _∙_}
 use native.Mathlib.Omega.{arith}
-use Rattle.bundle_storage.specs.Blocks.{blocksOf}
+use Rattle.bundle_layout.specs.Blocks.{blocksOf}
 use Rattle.bundle_layout.specs.Fields.{blocksIn}
 use Rattle.bundle_layout.proofs.Passing.{header-inside, k-some, k-limited, length-limited, blocks-limited}
 use Rattle.bundle_layout.proofs.inner.blocks_in.Statement.{statement}

@@ -4,7 +4,7 @@ use mathlib.Core.Path.{_∙_}
 use native.Mathlib.Omega.{arith}
 use borrow.Author.Needs.{needs}
 use lib.ListN.{length}
-use Rattle.field.specs.declared.refusal.Refusal.the-variants.{Disagree}
+use Rattle.answers.specs.declared.refusal.Refusal.the-variants.{Disagree}
 use Rattle.field.proofs.Size.{size-small}
 use Rattle.bundle_layout.proofs.Passing.{header-inside}
 use Rattle.bundle_read.proofs.BlockReading.{refused-none, block-message, block-none, bytes-more}

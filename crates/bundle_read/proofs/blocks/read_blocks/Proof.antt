@@ -5,7 +5,7 @@ use Prim.Native.Nat.{ℕ, _-_, _≤_}
 use native.Mathlib.Omega.{arith}
 use borrow.Author.Needs.{needs}
 use lib.ListN.{length, take}
-use Rattle.field.proofs.Leaves.{told-refused}
+use Rattle.answers.proofs.Leaves.{told-refused}
 use Rattle.bundle_read.specs.Reading.{blockAnswer, fileIn}
 use Rattle.bundle_read.proofs.BlockReading.{refused-none, answer-stops, answer-ends, file-whole, Taken, taken-none, taken-more}
 use Rattle.bundle_read.proofs.blocks.read_blocks.Statement.{statement}

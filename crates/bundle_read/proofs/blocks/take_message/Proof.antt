@@ -5,9 +5,9 @@ use mathlib.Core.List.{List, []}
 use Prim.Native.Nat.{ℕ, _*_, _-_, _<_}
 use native.Mathlib.Omega.{arith}
 use borrow.Author.Needs.{needs}
-use Rattle.field.specs.Refusals.{result}
-use Rattle.field.specs.declared.refusal.Refusal.the-variants.{Word, Tail}
-use Rattle.bundle_storage.specs.Blocks.{longestFile}
+use Rattle.answers.specs.Refusals.{result}
+use Rattle.answers.specs.declared.refusal.Refusal.the-variants.{Word, Tail}
+use Rattle.bundle_layout.specs.Shape.{longestFile}
 use Rattle.bundle_layout.specs.Fields.{kIn, lengthIn, blocksIn}
 use Rattle.bundle_layout.specs.Layout.{layoutChecks}
 use Rattle.bundle_layout.proofs.Passing.{header-inside, length-limited}

@@ -5,9 +5,9 @@ use Prim.Native.Nat.{ℕ, suc, _<_, _-_, _≤_}
 use native.Mathlib.Omega.{arith}
 use borrow.Author.Needs.{needs}
 use lib.ListN.{length}
-use Rattle.field.specs.Shape.{longest}
+use Rattle.limits.specs.Shape.{longest}
 use Rattle.field.proofs.Size.{size-small}
-use Rattle.bundle_storage.specs.Blocks.{longestFile}
+use Rattle.bundle_layout.specs.Shape.{longestFile}
 use Rattle.bundle_storage.specs.Storage.{countOf}
 use Rattle.bundle_layout.proofs.Holding.{limits}
 use Rattle.bundle_file.specs.File.{symbolAt, fileBundle}

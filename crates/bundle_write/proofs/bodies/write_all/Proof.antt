@@ -7,7 +7,7 @@ use borrow.Author.Needs.{needs}
 use lib.ListN.{replicate}
 use lib.Seq.{length-front}
 use Rattle.field.specs.Size.{sizeOf}
-use Rattle.field.proofs.Leaves.{lent-length}
+use Rattle.answers.proofs.Leaves.{lent-length}
 use Rattle.bundle_layout.specs.Rooms.{workRoom}
 use Rattle.bundle_front.proofs.Bundling.{bundle-room}
 use Rattle.bundle_write.proofs.bodies.write_all.Statement.{statement}

@@ -6,7 +6,7 @@ use Prim.Native.Nat.{ℕ}
 use native.Mathlib.Omega.{arith}
 use borrow.Author.Needs.{needs}
 use lib.ListN.{replicate}
-use Rattle.field.specs.Leaves.{written}
+use Rattle.answers.specs.Leaves.{written}
 use Rattle.code.specs.Rooms.{encodeRoom}
 use Rattle.code.proofs.Spreading.{n-fits, message-fits, still-room, part-ready, word, word-inside, word-fits, cells-length}
 use Rattle.code.proofs.inner.spread.Statement.{statement}

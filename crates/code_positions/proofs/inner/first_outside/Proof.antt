@@ -8,7 +8,7 @@ use borrow.Author.Needs.{needs}
 use borrow.Author.Tests.{le-leb, lt-leb}
 use lib.Dec.{leb}
 use lib.ListN.{length, getD}
-use Rattle.field.proofs.First.{first-here, first-all}
+use Rattle.answers.proofs.First.{first-here, first-all}
 use Rattle.code.specs.Positions.{firstOutside}
 use Rattle.code_positions.proofs.inner.first_outside.Statement.{statement}
 use Rattle.code_positions.proofs.inner.first_outside.Tie as tie

@@ -5,7 +5,7 @@ use Prim.Native.Nat.{_-_, _/_, _<_}
 use native.Mathlib.Omega.{arith}
 use borrow.Author.Needs.{needs}
 use lib.ListN.{length, getD}
-use Rattle.field.specs.Shape.{longest}
+use Rattle.limits.specs.Shape.{longest}
 use Rattle.code_positions.proofs.Repeating.{Passed, passed-none, passed-more, passed-here, passed-all}
 use Rattle.code_positions.proofs.repeats.first_repeat.Statement.{statement}
 use Rattle.code_positions.proofs.repeats.first_repeat.Tie as tie

@@ -7,9 +7,9 @@ use Prim.Native.Nat.{ℕ, _+_, _≤_}
 use native.Mathlib.Nat.{le-trans}
 use native.Mathlib.Omega.{arith}
 use borrow.Author.Needs.{needs}
-use Rattle.field.specs.Shape.{badShape}
+use Rattle.limits.specs.Shape.{badShape}
 use Rattle.field.specs.Size.{sizeOf}
-use Rattle.field.proofs.Shape.{shape-good, longest-le}
+use Rattle.limits.proofs.Shape.{shape-good, longest-le}
 use Rattle.field.proofs.Size.{size-enough, size-small}
 use Rattle.decode_between.specs.Room.{Room}
 use Rattle.decode_divide.proofs.Solving.{Finds, first-asked, first-long, quotient-room, none-found, all-found, some-found}

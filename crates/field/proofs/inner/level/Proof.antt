@@ -12,7 +12,7 @@ use borrow.Author.Tests.{le-leb, lt-leb}
 use lib.Dec.{leb, lit≤}
 use lib.Pow.{pow-mono}
 use Rattle.field.specs.Size.{levelOf}
-use Rattle.field.proofs.First.{first-here, first-all}
+use Rattle.answers.proofs.First.{first-here, first-all}
 use Rattle.field.proofs.inner.level.Statement.{statement}
 use Rattle.field.proofs.inner.level.Tie as tie
 

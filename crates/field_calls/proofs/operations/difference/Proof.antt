@@ -2,7 +2,7 @@
 -- Assumes nothing.
 use mathlib.Core.Path.{_∙_}
 use borrow.Author.Needs.{needs}
-use Rattle.field.proofs.Values.{above-found, above-none-value, both-symbols}
+use Rattle.limits.proofs.Values.{above-found, above-none-value, both-symbols}
 use Rattle.field_calls.proofs.operations.difference.Statement.{statement}
 use Rattle.field_calls.proofs.operations.difference.Tie as tie
 

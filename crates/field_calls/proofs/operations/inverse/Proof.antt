@@ -5,7 +5,7 @@ use mathlib.Core.List.{[], _∷_}
 use Prim.Native.Nat.{ℕ}
 use borrow.Author.Needs.{needs}
 use borrow.Author.Tests.{lt-ltb, le-ltb, eq-eqb, ne-eqb}
-use Rattle.field.specs.Refusals.{result}
+use Rattle.answers.specs.Refusals.{result}
 use Rattle.field_calls.proofs.operations.inverse.Statement.{statement}
 use Rattle.field_calls.proofs.operations.inverse.Tie as tie
 

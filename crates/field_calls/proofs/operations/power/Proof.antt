@@ -2,7 +2,7 @@
 -- Assumes nothing.
 use mathlib.Core.Path.{_∙_}
 use borrow.Author.Needs.{needs}
-use Rattle.field.proofs.Values.{above-found, above-none-value}
+use Rattle.limits.proofs.Values.{above-found, above-none-value}
 use Rattle.field_calls.proofs.operations.power.Statement.{statement}
 use Rattle.field_calls.proofs.operations.power.Tie as tie
 

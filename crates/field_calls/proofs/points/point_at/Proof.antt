@@ -6,7 +6,7 @@ use Prim.Native.Nat.{ℕ}
 use borrow.Author.Needs.{needs}
 use borrow.Author.Tests.{le-leb, lt-leb}
 use Rattle.field.specs.Points.{pointOf}
-use Rattle.field.specs.Refusals.{result}
+use Rattle.answers.specs.Refusals.{result}
 use Rattle.field_calls.specs.Points.{pointAnswer}
 use Rattle.field_calls.proofs.points.point_at.Statement.{statement}
 use Rattle.field_calls.proofs.points.point_at.Tie as tie

@@ -2,7 +2,7 @@
 -- Assumes nothing.
 use mathlib.Core.Path.{_∙_}
 use borrow.Author.Needs.{needs}
-use Rattle.field.proofs.Leaves.{told-done, told-refused}
+use Rattle.answers.proofs.Leaves.{told-done, told-refused}
 use Rattle.bundle_layout.specs.Layout.{layoutChecks}
 use Rattle.listing_text.specs.Answers.{mostInput}
 use Rattle.listing_text.proofs.Answering.{long-refused, layout-refused, layout-passed}

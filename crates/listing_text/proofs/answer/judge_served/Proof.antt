@@ -3,7 +3,7 @@
 use mathlib.Core.Path.{refl, ap, _∙_}
 use native.Mathlib.Omega.{arith}
 use borrow.Author.Needs.{needs}
-use Rattle.field.proofs.Leaves.{lent-length}
+use Rattle.answers.proofs.Leaves.{lent-length}
 use Rattle.bundle_layout.specs.Rooms.{workRoom}
 use Rattle.bundle_layout.proofs.Passing.{header-inside}
 use Rattle.listing_text.specs.Answers.{mostN, mostLength}

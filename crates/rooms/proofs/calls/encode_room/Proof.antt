@@ -2,8 +2,8 @@
 -- Assumes nothing.
 use mathlib.Core.Path.{refl, sym, _∙_}
 use borrow.Author.Needs.{needs}
-use Rattle.field.specs.declared.refusal.Refusal.the-variants.{Shape}
-use Rattle.field.proofs.Checks.{stops}
+use Rattle.answers.specs.declared.refusal.Refusal.the-variants.{Shape}
+use Rattle.answers.proofs.Checks.{stops}
 use Rattle.rooms.specs.Rooms.{encodeRoomAnswer}
 use Rattle.rooms.proofs.Answering.{tells}
 use Rattle.rooms.proofs.calls.encode_room.Statement.{statement}

@@ -4,9 +4,9 @@ use mathlib.Core.Path.{_≡_}
 use mathlib.Core.List.{List, [], _∷_}
 use Prim.Native.Nat.{ℕ}
 use borrow.Author.Needs.{needs}
-use Rattle.field.specs.Refusals.{result, refused}
-use Rattle.field.specs.declared.refusal.Refusal.{Refusal}
-use Rattle.field.proofs.Leaves.{told-done, told-refused}
+use Rattle.answers.specs.Refusals.{result, refused}
+use Rattle.answers.specs.declared.refusal.Refusal.{Refusal}
+use Rattle.answers.proofs.Leaves.{told-done, told-refused}
 use Rattle.bundle_layout.specs.Fields.{nIn, lengthIn}
 use Rattle.bundle_layout.specs.Layout.{layoutChecks}
 use Rattle.bundle_layout.specs.Rooms.{workRoom}

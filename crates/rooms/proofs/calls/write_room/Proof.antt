@@ -2,8 +2,8 @@
 -- Assumes nothing.
 use mathlib.Core.Path.{sym, ap, _∙_}
 use borrow.Author.Needs.{needs}
-use Rattle.field.specs.declared.refusal.Refusal.the-variants.{Shape}
-use Rattle.field.proofs.Checks.{stops}
+use Rattle.answers.specs.declared.refusal.Refusal.the-variants.{Shape}
+use Rattle.answers.proofs.Checks.{stops}
 use Rattle.bundle_layout.specs.Rooms.{writeRoom}
 use Rattle.bundle_layout.proofs.Passing.{countable, measurable}
 use Rattle.rooms.specs.Rooms.{writeRoomAnswer}

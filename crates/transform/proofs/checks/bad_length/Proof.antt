@@ -6,7 +6,7 @@ use Prim.Native.Nat.{ℕ}
 use borrow.Author.Needs.{needs}
 use borrow.Author.Tests.{eq-eqb, ne-eqb, lt-ltb, le-ltb}
 use lib.Dec.{eqb}
-use Rattle.field.specs.Shape.{longest}
+use Rattle.limits.specs.Shape.{longest}
 use Rattle.transform.specs.Lengths.{badLength}
 use Rattle.transform.proofs.checks.bad_length.Statement.{statement}
 use Rattle.transform.proofs.checks.bad_length.Tie as tie

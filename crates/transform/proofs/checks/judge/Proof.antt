@@ -3,7 +3,7 @@
 use mathlib.Core.Path.{sym, _∙_}
 use borrow.Author.Needs.{needs}
 use borrow.Author.Tests.{lt-ltb, le-ltb}
-use Rattle.field.proofs.Values.{above-found, above-none}
+use Rattle.limits.proofs.Values.{above-found, above-none}
 use Rattle.transform.specs.Calls.{judged}
 use Rattle.transform.proofs.checks.judge.Statement.{statement}
 use Rattle.transform.proofs.checks.judge.Tie as tie

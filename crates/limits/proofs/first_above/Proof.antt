@@ -1,4 +1,4 @@
--- `field::inner::first_above` meets its contract: the loop has passed only symbols.
+-- `limits::first_above` meets its contract: the loop has passed only symbols.
 -- Assumes nothing.
 use mathlib.Core.Path.{_≡_, sym}
 use mathlib.Core.Bool.{false}
@@ -8,10 +8,10 @@ use borrow.Author.Needs.{needs}
 use borrow.Author.Tests.{lt-ltb, le-ltb}
 use lib.Dec.{ltb}
 use lib.ListN.{length, getD}
-use Rattle.field.specs.Values.{firstAbove}
-use Rattle.field.proofs.First.{first-here, first-all}
-use Rattle.field.proofs.inner.first_above.Statement.{statement}
-use Rattle.field.proofs.inner.first_above.Tie as tie
+use Rattle.limits.specs.Values.{firstAbove}
+use Rattle.answers.proofs.First.{first-here, first-all}
+use Rattle.limits.proofs.first_above.Statement.{statement}
+use Rattle.limits.proofs.first_above.Tie as tie
 
 abbrev Inv-loop : tie.InvT-loop
 Inv-loop values i₀ i = (i ≤ length values) × ((k : ℕ) → k < i → ltb 65536 (getD values k 0) ≡ false)

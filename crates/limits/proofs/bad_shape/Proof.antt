@@ -1,9 +1,9 @@
--- `field::inner::bad_shape` meets its contract: the tests are SHAPE's, in its order.
+-- `limits::bad_shape` meets its contract: the tests are SHAPE's, in its order.
 -- Assumes nothing.
 use borrow.Author.Tests.{eq-eqb, ne-eqb, lt-ltb, le-ltb}
-use Rattle.field.specs.Shape.{longest, badShape}
-use Rattle.field.proofs.inner.bad_shape.Statement.{statement}
-use Rattle.field.proofs.inner.bad_shape.Tie as tie
+use Rattle.limits.specs.Shape.{longest, badShape}
+use Rattle.limits.proofs.bad_shape.Statement.{statement}
+use Rattle.limits.proofs.bad_shape.Tie as tie
 
 pub bad-shape-spec : {M : Type 1} → statement M
 unfolding longest badShape

@@ -7,10 +7,10 @@ use native.Mathlib.Nat.{le-of-eq, le-trans}
 use native.Mathlib.Omega.{arith}
 use borrow.Author.Tests.{ltb-false, eqb-false}
 use lib.Dec.{ltb, eqb, lit≤}
-use Rattle.field.specs.Shape.{longest, badShape}
+use Rattle.limits.specs.Shape.{longest, badShape}
 use Rattle.field.specs.Size.{levelOf, sizeOf}
-use Rattle.field.proofs.Checks.{or-false}
+use Rattle.answers.proofs.Checks.{or-false}
 use Rattle.field.proofs.Size.{size-power, size-enough, size-least, level-least, level-size}
 
 pub longest-le : longest ≤ 65536
 unfolding longest

@@ -3,8 +3,8 @@ use mathlib.Core.Path.{_≡_}
 use mathlib.Core.List.{List, _++_}
 use Prim.Native.Nat.{ℕ}
 use lib.ListN.{length, drop, replicate}
-use Rattle.field.specs.Refusals.{Answer, result, refusal, toldOutcome}
-use Rattle.field.specs.declared.refusal.Outcome.{Outcome}
+use Rattle.answers.specs.Refusals.{Answer, result, refusal, toldOutcome}
+use Rattle.answers.specs.declared.refusal.Outcome.{Outcome}
 
 pub record Leaves : Type 0 where
   pub answer : Answer

@@ -2,10 +2,10 @@
 use mathlib.Core.Bool.{Bool, cond}
 use mathlib.Core.List.{List, []}
 use Prim.Native.Nat.{ℕ}
-use Rattle.field.specs.declared.refusal.Outcome.{Outcome}
-use Rattle.field.specs.declared.refusal.Outcome.the-variants.{Done, Refused}
-use Rattle.field.specs.declared.refusal.Refusal.{Refusal}
-use Rattle.field.specs.declared.refusal.Refusal.the-variants.{Shape, Length, Room, Few, Position, Repeat, Value, Disagree, Word, Tail, Form}
+use Rattle.answers.specs.declared.refusal.Outcome.{Outcome}
+use Rattle.answers.specs.declared.refusal.Outcome.the-variants.{Done, Refused}
+use Rattle.answers.specs.declared.refusal.Refusal.{Refusal}
+use Rattle.answers.specs.declared.refusal.Refusal.the-variants.{Shape, Length, Room, Few, Position, Repeat, Value, Disagree, Word, Tail, Form}
 
 abbrev pub numberOf : Refusal → ℕ
 numberOf Shape = 1
@@ -45,6 +45,11 @@ refused x = refusal (numberOf x) (placeOf x)
 -- a check: where it is bad, this refusal, else what the later checks and the work answer
 abbrev pub refuseIf : Bool → Refusal → Answer → Answer
 refuseIf bad x later = cond bad (refused x) later
+
+-- what comes after checks that passed
+abbrev pub after : Answer → Answer → Answer
+after (refusal n i) later = refusal n i
+after (result vs) later = later
 
 -- an outcome of the code, on paper: its result lies in lent memory
 abbrev pub toldOutcome : Outcome → Answer

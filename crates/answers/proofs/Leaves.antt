@@ -6,12 +6,12 @@ use Prim.Native.Nat.{ℕ, _-_, _≤_}
 use native.Mathlib.Omega.{arith}
 use lib.ListN.{length, take, drop, replicate, drop-of-length-le}
 use lib.Seq.{length-take-le}
-use Rattle.field.specs.Leaves.{Leaves, left, unlessRefused, zeroed, Settled}
-use Rattle.field.specs.Refusals.{Answer, result, refused, toldOutcome}
-use Rattle.field.specs.declared.refusal.Outcome.{Outcome}
-use Rattle.field.specs.declared.refusal.Outcome.the-variants.{Done, Refused}
-use Rattle.field.specs.declared.refusal.Refusal.{Refusal}
-use Rattle.field.proofs.Refusals.{told-outcome-one}
+use Rattle.answers.specs.Leaves.{Leaves, left, unlessRefused, zeroed, Settled}
+use Rattle.answers.specs.Refusals.{Answer, result, refused, toldOutcome}
+use Rattle.answers.specs.declared.refusal.Outcome.{Outcome}
+use Rattle.answers.specs.declared.refusal.Outcome.the-variants.{Done, Refused}
+use Rattle.answers.specs.declared.refusal.Refusal.{Refusal}
+use Rattle.answers.proofs.Refusals.{told-outcome-one}
 
 pub settled : (it : Leaves) → Settled it
 settled it r s l m w v p q =

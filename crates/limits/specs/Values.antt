@@ -3,9 +3,9 @@ use mathlib.Core.List.{List}
 use Prim.Native.Nat.{ℕ}
 use lib.Dec.{ltb}
 use lib.ListN.{length, getD}
-use Rattle.field.specs.First.{first}
-use Rattle.field.specs.Refusals.{Answer, refuseIf}
-use Rattle.field.specs.declared.refusal.Refusal.the-variants.{Value}
+use Rattle.answers.specs.First.{first}
+use Rattle.answers.specs.Refusals.{Answer, refuseIf}
+use Rattle.answers.specs.declared.refusal.Refusal.the-variants.{Value}
 
 unfoldable pub firstAbove : List ℕ → ℕ
 firstAbove values = first (length values) (λ i. ltb 65536 (getD values i 0))

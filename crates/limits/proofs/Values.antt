@@ -7,12 +7,12 @@ use native.Mathlib.Nat.{le-of-eq, le-of-suc-le-suc, le-trans, lt-of-lt-of-le}
 use borrow.Author.Tests.{ltb-false, le-ltb}
 use lib.Dec.{ltb, lit<}
 use lib.ListN.{length, getD}
-use Rattle.field.specs.Refusals.{Answer, result, refused}
+use Rattle.answers.specs.Refusals.{Answer, result, refused}
 use Rattle.field.specs.Symbol.{Symbols}
-use Rattle.field.specs.Values.{firstAbove, refuseAbove}
-use Rattle.field.specs.declared.refusal.Refusal.the-variants.{Value}
-use Rattle.field.proofs.First.{first-before, first-none}
-use Rattle.field.proofs.Checks.{stops-at, passes-all}
+use Rattle.limits.specs.Values.{firstAbove, refuseAbove}
+use Rattle.answers.specs.declared.refusal.Refusal.the-variants.{Value}
+use Rattle.answers.proofs.First.{first-before, first-none}
+use Rattle.answers.proofs.Checks.{stops-at, passes-all}
 
 pub above-found : (values : List ℕ) (later : Answer) {x : ℕ} → x ≡ firstAbove values → x < length values
     → refused (Value x) ≡ refuseAbove values later

@@ -5,11 +5,11 @@ use mathlib.Core.List.{List, [], _∷_}
 use Prim.Native.Nat.{ℕ, pred}
 use native.Mathlib.Omega.{arith}
 use lib.ListN.{getD}
-use Rattle.field.specs.Refusals.{Answer, result, refusal, refused, numberOf, placeOf, toldOutcome}
-use Rattle.field.specs.declared.refusal.Outcome.{Outcome}
-use Rattle.field.specs.declared.refusal.Outcome.the-variants as O
-use Rattle.field.specs.declared.refusal.Refusal.{Refusal}
-use Rattle.field.specs.declared.refusal.Refusal.the-variants.{Shape, Length, Room, Few, Position, Repeat, Value, Disagree, Word, Tail, Form}
+use Rattle.answers.specs.Refusals.{Answer, result, refusal, refused, numberOf, placeOf, toldOutcome}
+use Rattle.answers.specs.declared.refusal.Outcome.{Outcome}
+use Rattle.answers.specs.declared.refusal.Outcome.the-variants as O
+use Rattle.answers.specs.declared.refusal.Refusal.{Refusal}
+use Rattle.answers.specs.declared.refusal.Refusal.the-variants.{Shape, Length, Room, Few, Position, Repeat, Value, Disagree, Word, Tail, Form}
 
 -- the refusal of a number and a place
 named : ℕ → ℕ → Refusal

@@ -9,9 +9,9 @@ use native.Mathlib.Nat.{lt-of-not-le}
 use native.Mathlib.Omega.{arith}
 use borrow.Author.Tests.{lt-ltb, le-ltb, le-leb, lt-leb}
 use lib.Dec.{ltb, leb}
-use Rattle.field.specs.Refusals.{Answer, result, refused, refuseIf}
-use Rattle.field.specs.declared.refusal.Refusal.{Refusal}
-use Rattle.field.proofs.Refusals.{result-no-refusal}
+use Rattle.answers.specs.Refusals.{Answer, result, refused, refuseIf}
+use Rattle.answers.specs.declared.refusal.Refusal.{Refusal}
+use Rattle.answers.proofs.Refusals.{result-no-refusal}
 
 -- a check that did not refuse
 pub passed : (bad : Bool) (x : Refusal) (later : Answer) (vs : List ℕ) → refuseIf bad x later ≡ result vs → (bad ≡ false) × (later ≡ result vs)

@@ -24,14 +24,14 @@ find_inside() { # FUNCTION CALL K N KIND BLOCKS
 # product. 0 if they cannot be told apart.
 find_by_table() { # N
     local halving whole
-    find_inside transform_table::inner::transform_by decode $(($1 / 2)) "$1" all 1
+    find_inside transform_table::transform_by decode $(($1 / 2)) "$1" all 1
     cost=$inside
     [ "$cost" -eq 0 ] || return 0
-    find_inside transform_table::inner::halve_by decode $(($1 / 2)) "$1" all 1
+    find_inside transform_table::halve_by decode $(($1 / 2)) "$1" all 1
     halving=$inside
-    find_inside transform_halving::inner::transform transform "$1" "$1" all 0
+    find_inside transform_halving::transform transform "$1" "$1" all 0
     whole=$inside
-    find_inside transform_halving::inner::halve transform "$1" "$1" all 0
+    find_inside transform_halving::halve transform "$1" "$1" all 0
     [ "$halving" -eq 0 ] || [ "$whole" -eq 0 ] || [ "$inside" -eq 0 ] || cost=$((halving + whole - inside))
 }
 

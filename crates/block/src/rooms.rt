@@ -1,5 +1,5 @@
 // Room needed, worked out in one place for the checks and for the work. No entry points: the crate above reaches them through `inner`.
-use field::inner::size;
+use field::size;
 ghost use mathlib.Core.Path.{_≡_};
 ghost use Rattle.code.specs.Rooms.{encodeRoom, decodeRoom};
 

@@ -8,7 +8,7 @@ use crate::whole::read_all;
 use answers::Outcome;
 use bundle_layout::inner::length_in;
 use bundle_layout::inner::n_in;
-use bundle_write::inner::write_all;
+use bundle_write::write_all;
 ghost use mathlib.Core.Path.{_≡_};
 ghost use Rattle.answers.specs.Leaves.{left};
 ghost use Rattle.bundle.specs.Answers.{toldLength};

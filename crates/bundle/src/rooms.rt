@@ -1,5 +1,5 @@
 // Room needed, worked out in one place for the checks and for the work. No entry points: the crates above reach them through `inner`.
-use field::inner::size;
+use field::size;
 ghost use mathlib.Core.Path.{_≡_};
 ghost use Prim.Native.Nat.{_≤_};
 ghost use Rattle.limits.specs.Shape.{longest};

@@ -1,11 +1,11 @@
 // The whole file of a bundle whose layout is good, or nothing of it. No entry point and for this crate alone: the entry point has made the checks.
 use crate::answer::LengthAnswer;
 use answers::Outcome;
-use bundle_gather::inner::start;
+use bundle_gather::start;
 use bundle_layout::inner::length_in;
-use bundle_read::inner::read_blocks;
-use cells::inner::clear;
-use cells::inner::clear_bytes;
+use bundle_read::read_blocks;
+use cells::clear;
+use cells::clear_bytes;
 ghost use mathlib.Core.Path.{_≡_};
 ghost use mathlib.Core.List.{[]};
 ghost use Prim.Native.Nat.{_≤_};

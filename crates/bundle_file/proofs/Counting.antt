@@ -11,7 +11,7 @@ use lib.Dec.{eqb}
 use lib.ListN.{length, getD, take, drop, replicate, length-append, length-drop, length-replicate, List·getD-append}
 use lib.Seq.{length-take-le, getD-take, getD-drop, getD-append-add}
 use Rattle.field.specs.Size.{sizeOf}
-use Rattle.field.proofs.Size.{size-enough}
+use Rattle.field.proofs.Sizes.{size-enough}
 use Rattle.poly.proofs.Tab.{tab-at}
 use Rattle.code.specs.Code.{codeWord}
 use Rattle.bundle_layout.specs.Shape.{badBundleShape}

@@ -1,8 +1,8 @@
 // The overflow counts, of which the table needs those of the whole file: of 2N cells the first N hold a block's code word, the next N the counts.
-// No entry points: the callers have made the checks, and the crates above reach what they need in `inner`.
+// No entry points: the callers have made the checks.
 use crate::words::code_block;
-use cells::inner::clear;
-use field::inner::size;
+use cells::clear;
+use field::size;
 ghost use mathlib.Core.Path.{_≡_};
 ghost use mathlib.Core.Bool.{false};
 ghost use Prim.Native.Nat.{ℕ, _+_, _*_, _<_, _≤_};

@@ -1,6 +1,6 @@
 // The file as words, and the code word of a block of it. No entry points and for this crate alone: the callers have made the checks.
-use cells::inner::clear;
-use transform_halving::inner::transform;
+use cells::clear;
+use transform_halving::transform;
 ghost use mathlib.Core.Path.{_≡_};
 ghost use mathlib.Core.Bool.{false};
 ghost use mathlib.Core.List.{_++_};

@@ -11,7 +11,7 @@ use Rattle.field.specs.Congruence.{_≈_}
 use Rattle.answers.specs.Refusals.{result}
 use Rattle.field.specs.Size.{sizeOf}
 use Rattle.limits.proofs.Shape.{longest-le, size-le}
-use Rattle.field.proofs.Size.{size-enough}
+use Rattle.field.proofs.Sizes.{size-enough}
 use Rattle.poly.specs.Products.{vanishing}
 use Rattle.poly.specs.Value.{value}
 use Rattle.decode_between.specs.Between.{between}

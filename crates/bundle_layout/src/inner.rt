@@ -2,8 +2,8 @@
 // field ask that it is there.
 pub use crate::checks::bad_bundle_shape;
 pub use crate::checks::layout_checks;
-use bundle_storage::inner::four_at;
-use bundle_storage::inner::two_at;
+use bundle_storage::four_at;
+use bundle_storage::two_at;
 ghost use mathlib.Core.Path.{_≡_};
 ghost use mathlib.Core.List.{[]};
 ghost use Prim.Native.Nat.{_+_, _<_, _≤_};

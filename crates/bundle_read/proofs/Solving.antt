@@ -17,7 +17,7 @@ use Rattle.field.specs.Size.{sizeOf}
 use Rattle.field.specs.Symbol.{Symbols}
 use Rattle.field.proofs.Ring.{product-lt}
 use Rattle.limits.proofs.Shape.{shape-good, level-twice}
-use Rattle.field.proofs.Size.{size-size}
+use Rattle.field.proofs.Sizes.{size-size}
 use Rattle.poly.specs.Products.{vanishing}
 use Rattle.poly.specs.Tab.{tab}
 use Rattle.poly.specs.Value.{value}

@@ -1,17 +1,16 @@
-// Reading a bundle whose layout is good, block by block. No entry points: the callers have made the checks and prepared the working space, and reach
-// what they need in `inner`.
+// Reading a bundle whose layout is good, block by block. No entry points: the callers have made the checks and prepared the working space.
 use crate::bytes::bad_bytes;
 use crate::bytes::bad_word;
 use crate::bytes::lay_bytes;
 use answers::Outcome;
 use answers::Refusal;
-use bundle_gather::inner::gather;
+use bundle_gather::gather;
 use bundle_layout::inner::blocks_in;
 use bundle_layout::inner::k_in;
 use bundle_layout::inner::length_in;
 use bundle_layout::inner::n_in;
-use decode_divide::inner::solve;
-use field::inner::size;
+use decode_divide::solve;
+use field::size;
 ghost use mathlib.Core.Path.{_≡_};
 ghost use mathlib.Core.List.{[], _∷_, _++_};
 ghost use mathlib.Core.Option.{some};

@@ -1,6 +1,6 @@
 // A decoded message as bytes of the file. No entry points and for this crate alone: the callers have made the checks.
-use bundle_storage::inner::put_two;
-use cells::inner::wide;
+use bundle_storage::put_two;
+use cells::wide;
 ghost use mathlib.Core.Path.{_≡_};
 ghost use mathlib.Core.Bool.{not};
 ghost use mathlib.Core.List.{_++_};

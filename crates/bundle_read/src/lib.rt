@@ -1,4 +1,5 @@
-// The blocks of a bundle whose layout is good, read to the bytes of its file.
+// No entry points: the blocks of a bundle that the checks have passed, read to the bytes of its file, for the crates above.
 mod blocks;
 mod bytes;
-pub mod inner;
+
+pub use blocks::read_blocks;

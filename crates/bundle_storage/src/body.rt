@@ -1,8 +1,7 @@
-// How a body stores its symbols, one at a time, and whether bytes are a body. No entry points: each asks that the place lies inside, and the
-// crates above reach them in `inner`.
-use crate::inner::put_two;
-use crate::inner::two_at;
-use cells::inner::wide;
+// How a body stores its symbols, one at a time, and whether bytes are a body. No entry points: each asks that the place lies inside.
+use crate::bytes::put_two;
+use crate::bytes::two_at;
+use cells::wide;
 ghost use mathlib.Core.Path.{_≡_};
 ghost use mathlib.Core.Bool.{_&&_};
 ghost use mathlib.Core.List.{List};

@@ -1,19 +1,18 @@
 // Writing a bundle: the first pass over the blocks counts the overflows, of which the table needs the counts, and writes the bodies as they lie
-// where there is none; if there is one, a second pass writes them anew. No entry points: the entry point has made the checks, and the crate
-// above reaches what it needs in `inner`.
-use bundle_file::inner::clear_counts;
-use bundle_file::inner::code_front;
-use bundle_file::inner::none_counted;
-use bundle_file::inner::tally;
-use bundle_first_pass::inner::put_at;
-use bundle_first_pass::inner::write_plain;
-use bundle_front::inner::write_front;
+// where there is none; if there is one, a second pass writes them anew. No entry points: the entry point has made the checks.
+use bundle_file::clear_counts;
+use bundle_file::code_front;
+use bundle_file::none_counted;
+use bundle_file::tally;
+use bundle_first_pass::put_at;
+use bundle_first_pass::write_plain;
+use bundle_front::write_front;
 use bundle_layout::inner::blocks;
 use bundle_layout::inner::count_in;
 use bundle_layout::inner::offset_in;
-use cells::inner::clear;
-use cells::inner::wide;
-use field::inner::size;
+use cells::clear;
+use cells::wide;
+use field::size;
 ghost use mathlib.Core.Path.{_≡_};
 ghost use mathlib.Core.Bool.{false};
 ghost use Prim.Native.Nat.{suc, _+_, _*_, _<_, _≤_};

@@ -12,7 +12,7 @@ use Rattle.field.specs.Size.{sizeOf}
 use Rattle.field.proofs.Congruence.{reduced}
 use Rattle.field.proofs.Ring.{power-lt}
 use Rattle.limits.proofs.Shape.{longest-le}
-use Rattle.field.proofs.Size.{size-enough}
+use Rattle.field.proofs.Sizes.{size-enough}
 use Rattle.field.proofs.Theorems.{points-distinct}
 use Rattle.poly.specs.Distinct.{Distinct}
 use Rattle.poly.proofs.Distinct.{distinct-tab}

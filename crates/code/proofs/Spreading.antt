@@ -13,12 +13,12 @@ use Rattle.field.specs.Points.{pointOf}
 use Rattle.field.specs.Size.{levelOf, sizeOf}
 use Rattle.answers.proofs.Leaves.{lent-length}
 use Rattle.limits.proofs.Shape.{shape-good, longest-le}
-use Rattle.field.proofs.Size.{level-le, size-power, size-enough}
+use Rattle.field.proofs.Sizes.{level-le, size-power, size-enough}
 use Rattle.poly.specs.Value.{value}
 use Rattle.poly.proofs.Every.{every-replicate}
 use Rattle.poly.proofs.Symbols.{symbols-at, append-symbols}
 use Rattle.poly.proofs.Tab.{tab-length, tab-at}
-use Rattle.poly.proofs.Value.{value-append, value-zeros}
+use Rattle.poly.proofs.Values.{value-append, value-zeros}
 use Rattle.transform_halving.specs.Ready.{Ready}
 use Rattle.transform_halving.specs.Transform.{transformOf}
 use Rattle.transform_halving.proofs.Ready.{ready-of}

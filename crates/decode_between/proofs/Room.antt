@@ -15,7 +15,7 @@ use Rattle.field.specs.Size.{levelOf, sizeOf}
 use Rattle.field.specs.Symbol.{Symbols}
 use Rattle.field.proofs.Ring.{power-lt, symbols-product}
 use Rattle.limits.proofs.Shape.{size-le}
-use Rattle.field.proofs.Size.{size-power, size-small, size-size, level-least}
+use Rattle.field.proofs.Sizes.{size-power, size-small, size-size, level-least}
 use Rattle.poly.proofs.Tab.{tab-at}
 use Rattle.decode_between.specs.Between.{psi}
 use Rattle.decode_between.specs.Room.{Table, Room}

@@ -15,7 +15,7 @@ use Rattle.field.specs.Size.{levelOf, sizeOf}
 use Rattle.field.specs.Symbol.{Symbols}
 use Rattle.field.proofs.Ring.{power-times}
 use Rattle.field.proofs.Roots.{root-is}
-use Rattle.field.proofs.Size.{level-least, size-power}
+use Rattle.field.proofs.Sizes.{level-least, size-power}
 use Rattle.transform_halving.specs.Ready.{Ready}
 use Rattle.transform_table.specs.Part.{part}
 use Rattle.transform_table.specs.Turns.{Turns, Tabled}

@@ -21,7 +21,7 @@ use Rattle.answers.specs.declared.refusal.Refusal.the-variants.{Disagree}
 use Rattle.answers.proofs.Leaves.{zeroed-all}
 use Rattle.field.proofs.Ring.{product-lt}
 use Rattle.limits.proofs.Shape.{shape-good, longest-le}
-use Rattle.field.proofs.Size.{size-enough, size-small}
+use Rattle.field.proofs.Sizes.{size-enough, size-small}
 use Rattle.poly.proofs.Tab.{tab-at}
 use Rattle.code.specs.Decoded.{decoded}
 use Rattle.code.specs.Decoding.{decodeOf}

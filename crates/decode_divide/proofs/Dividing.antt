@@ -30,7 +30,7 @@ use Rattle.poly.proofs.Every.{every-map, every-tab}
 use Rattle.poly.proofs.Products.{times-length, product-value}
 use Rattle.poly.proofs.Symbols.{symbols-every, tab-symbols}
 use Rattle.poly.proofs.Tab.{tab-length, tab-at}
-use Rattle.poly.proofs.Value.{value-≈, value-append, value-zeros, value-front}
+use Rattle.poly.proofs.Values.{value-≈, value-append, value-zeros, value-front}
 use Rattle.transform_halving.specs.Transform.{sums}
 use Rattle.transform_halving.proofs.Round.{Opposite, round}
 use Rattle.transform_halving.proofs.Sums.{values, sums-values, sums-length, sums-symbols}

@@ -20,7 +20,7 @@ use Rattle.poly.specs.Tab.{tab}
 use Rattle.poly.specs.Value.{value}
 use Rattle.poly.proofs.Sum.{total-≈, total-ext, total-scale}
 use Rattle.poly.proofs.Tab.{tab-length, tab-at, tab-ext, tab-getD}
-use Rattle.poly.proofs.Value.{value-tab, longer-sum}
+use Rattle.poly.proofs.Values.{value-tab, longer-sum}
 use Rattle.transform_halving.specs.Transform.{sums}
 use Rattle.transform_halving.proofs.Round.{Opposite, round}
 use Rattle.transform_halving.proofs.Sums.{values, sums-values}

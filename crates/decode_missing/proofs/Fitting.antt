@@ -18,7 +18,7 @@ use Rattle.field.proofs.Congruence.{≈-refl, ≈-of, ≈-sym, _∘≈_, _·≈
 use Rattle.field.proofs.Fermat.{no-divisors}
 use Rattle.field.proofs.Ring.{product-≈}
 use Rattle.limits.proofs.Shape.{shape-good, longest-le}
-use Rattle.field.proofs.Size.{size-power, size-enough}
+use Rattle.field.proofs.Sizes.{size-power, size-enough}
 use Rattle.poly.specs.Distinct.{Distinct}
 use Rattle.poly.specs.Every.{Every}
 use Rattle.poly.specs.Products.{vanishing}

@@ -20,7 +20,7 @@ use Rattle.field.proofs.Congruence.{≈-of, ≈-sym, _∘≈_, _+≈_, _·≈_,
 use Rattle.field.proofs.Powers.{full-power}
 use Rattle.field.proofs.Ring.{power-≈}
 use Rattle.field.proofs.Roots.{root-full}
-use Rattle.field.proofs.Size.{level-le, level-size, size-power}
+use Rattle.field.proofs.Sizes.{level-le, level-size, size-power}
 use Rattle.poly.specs.Distinct.{Distinct}
 use Rattle.poly.specs.Every.{Every}
 use Rattle.poly.specs.Products.{vanishing}
@@ -28,7 +28,7 @@ use Rattle.poly.specs.Value.{value}
 use Rattle.poly.proofs.Counting.{vanishing-is-zero}
 use Rattle.poly.proofs.Every.{every-map, every-append}
 use Rattle.poly.proofs.Products.{times-value, vanishing-apart}
-use Rattle.poly.proofs.Value.{value-append, value-zeros}
+use Rattle.poly.proofs.Values.{value-append, value-zeros}
 use Rattle.code.proofs.Points.{point-one}
 use Rattle.decode_missing.specs.Missing.{unmarked}
 

@@ -18,7 +18,7 @@ use Rattle.field.proofs.Congruence.{≈-refl, ≈-of, ≈-sym, _∘≈_, mul-�
 use Rattle.field.proofs.Fermat.{inverse-≈, no-divisors}
 use Rattle.field.proofs.Ring.{product-≈, power-≈, power-lt}
 use Rattle.limits.proofs.Shape.{shape-good, size-le, level-twice}
-use Rattle.field.proofs.Size.{size-size}
+use Rattle.field.proofs.Sizes.{size-size}
 use Rattle.poly.specs.Every.{Every}
 use Rattle.poly.specs.Products.{times, vanishing}
 use Rattle.poly.specs.Tab.{tab}
@@ -27,7 +27,7 @@ use Rattle.poly.proofs.Every.{every-map}
 use Rattle.poly.proofs.Products.{vanishing-symbols}
 use Rattle.poly.proofs.Symbols.{symbols-at, append-symbols}
 use Rattle.poly.proofs.Tab.{tab-length, tab-at, tab-ext}
-use Rattle.poly.proofs.Value.{value-≈, value-append, value-zeros}
+use Rattle.poly.proofs.Values.{value-≈, value-append, value-zeros}
 use Rattle.transform_halving.specs.Transform.{transformOf}
 use Rattle.transform_halving.proofs.Sums.{values}
 use Rattle.transform_halving.proofs.Undo.{transform-values}

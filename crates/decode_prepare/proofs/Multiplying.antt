@@ -12,7 +12,7 @@ use lib.Seq.{length-take-le, take-at, drop-at, take-take, take-append-add, drop-
 use Rattle.field.specs.Field.{difference, product}
 use Rattle.field.specs.Size.{levelOf, sizeOf}
 use Rattle.field.specs.Symbol.{Symbols}
-use Rattle.field.proofs.Size.{size-power, size-enough, size-least, size-of-power, level-least, size-small}
+use Rattle.field.proofs.Sizes.{size-power, size-enough, size-least, size-of-power, level-least, size-small}
 use Rattle.poly.specs.Every.{Every}
 use Rattle.poly.specs.Products.{times, vanishing}
 use Rattle.poly.specs.Raised.{raised}

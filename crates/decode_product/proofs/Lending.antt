@@ -10,7 +10,7 @@ use lib.ListN.{length, take, drop, length-append, length-drop, drop-of-length-le
 use lib.Seq.{length-take-le, take-at, drop-at, take-all, take-take}
 use Rattle.field.specs.Size.{sizeOf}
 use Rattle.field.specs.Symbol.{Symbols}
-use Rattle.field.proofs.Size.{size-of-power}
+use Rattle.field.proofs.Sizes.{size-of-power}
 use Rattle.decode_product.specs.Halves.{HalfReady, TwoFactors, left, right}
 use Rattle.decode_product.proofs.Quarters.{Quarters, quarters}
 

@@ -18,7 +18,7 @@ use Rattle.poly.proofs.Distinct.{distinct-tab}
 use Rattle.poly.proofs.Every.{every-left, every-tab}
 use Rattle.poly.proofs.Products.{vanishing-append, vanishing-length, vanishing-symbols, vanishing-last, product-value}
 use Rattle.poly.proofs.Tab.{tab-length, with-last}
-use Rattle.poly.proofs.Value.{value-append}
+use Rattle.poly.proofs.Values.{value-append}
 use Rattle.decode_product.specs.Factors.{lowersOf, monicTimes}
 use Rattle.decode_product.proofs.Times.{times-settled}
 

@@ -14,7 +14,7 @@ use Rattle.poly.specs.Every.{Every}
 use Rattle.poly.specs.Value.{value}
 use Rattle.poly.proofs.Every.{every-replicate}
 use Rattle.poly.proofs.Symbols.{append-symbols, symbols-at}
-use Rattle.poly.proofs.Value.{value-append, value-zeros}
+use Rattle.poly.proofs.Values.{value-append, value-zeros}
 use Rattle.transform_halving.specs.Ready.{Ready}
 use Rattle.decode_product.specs.Factors.{padded}
 use Rattle.decode_product.specs.Halves.{HalfReady}

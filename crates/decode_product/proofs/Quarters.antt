@@ -8,7 +8,7 @@ use lib.Pow.{pow-mono}
 use lib.ListN.{length, getD, drop, length-drop}
 use lib.Seq.{length-take-le, getD-take, getD-drop}
 use Rattle.field.specs.Size.{levelOf, sizeOf}
-use Rattle.field.proofs.Size.{level-le, size-power}
+use Rattle.field.proofs.Sizes.{level-le, size-power}
 use Rattle.decode_product.specs.Halves.{TwoFactors, left, right}
 
 pub record Quarters (d : List ℕ) : Type 0 where

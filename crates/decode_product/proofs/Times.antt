@@ -19,7 +19,7 @@ use Rattle.poly.proofs.Counting.{unique}
 use Rattle.poly.proofs.Every.{every-map, every-tab}
 use Rattle.poly.proofs.Sum.{total-ext, total-zero}
 use Rattle.poly.proofs.Tab.{tab-length, tab-ext}
-use Rattle.poly.proofs.Value.{value-append, value-zeros}
+use Rattle.poly.proofs.Values.{value-append, value-zeros}
 use Rattle.decode_product.specs.Factors.{crossed, coefficient, monicTimes}
 
 -- The value of a list that is given by its entries

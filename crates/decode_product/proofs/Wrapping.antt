@@ -17,7 +17,7 @@ use Rattle.field.proofs.Congruence.{≈-of, ≈-sym, _∘≈_, _+≈_, mul-≈,
 use Rattle.field.proofs.Powers.{full-power}
 use Rattle.field.proofs.Ring.{difference-≈, difference-lt, product-≈, product-lt}
 use Rattle.field.proofs.Roots.{root-order, root-full, powers-distinct}
-use Rattle.field.proofs.Size.{level-power}
+use Rattle.field.proofs.Sizes.{level-power}
 use Rattle.poly.specs.Distinct.{Distinct}
 use Rattle.poly.specs.Tab.{tab}
 use Rattle.poly.specs.Value.{value}

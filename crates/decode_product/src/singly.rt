@@ -1,7 +1,7 @@
-// A few points, multiplied out one factor at a time. No entry points and for this crate alone: `inner` has tested how many there are.
+// A few points, multiplied out one factor at a time. No entry points and for this crate alone: its caller has tested how many there are.
 use crate::moving::repeat;
-use field::inner::difference;
-use field::inner::product;
+use field::difference;
+use field::product;
 ghost use mathlib.Core.Path.{_≡_};
 ghost use Prim.Native.Nat.{_/_, _<_};
 ghost use lib.ListN.{length, take};

@@ -1,10 +1,10 @@
 // Two long products, multiplied by their values at the roots. No entry points and for this crate alone: they ask for two lists in the halves of
 // the cells.
-use cells::inner::clear;
-use field::inner::difference;
-use field::inner::product;
-use transform_halving::inner::inverse;
-use transform_halving::inner::transform;
+use cells::clear;
+use field::difference;
+use field::product;
+use transform_halving::inverse;
+use transform_halving::transform;
 ghost use mathlib.Core.Path.{_≡_};
 ghost use Prim.Native.Nat.{_+_, _/_, _%_};
 ghost use lib.ListN.{length, take, getD};

@@ -4,5 +4,5 @@ pub mod Table
 pub mod Ring
 pub mod Fermat
 pub mod Roots
-pub mod Size
+pub mod Sizes
 pub mod Theorems

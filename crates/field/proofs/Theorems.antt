@@ -16,7 +16,7 @@ use Rattle.field.proofs.Congruence.{reduced}
 use Rattle.field.proofs.Fermat.{inverse-≈, no-divisors}
 use Rattle.field.proofs.Ring as Ring
 use Rattle.field.proofs.Roots as Roots
-use Rattle.field.proofs.Size.{level-le, level-size, size-enough, size-least}
+use Rattle.field.proofs.Sizes.{level-le, level-size, size-enough, size-least}
 
 pub commutative-ring : CommutativeRing
 commutative-ring =

@@ -1,6 +1,5 @@
 // The field operations that callers can reach: each tests its operands and refuses by VALUE.
 use answers::Refusal;
-use field::inner;
 ghost use mathlib.Core.Path.{_≡_};
 ghost use mathlib.Core.List.{[], _∷_};
 ghost use Rattle.answers.specs.Refusals.{refused};
@@ -34,7 +33,7 @@ pub fn sum(a: u32, b: u32) -> SymbolAnswer
     if above < 2 {
         return refuse(above);
     }
-    SymbolAnswer::Symbol(inner::sum(a, b))
+    SymbolAnswer::Symbol(field::sum(a, b))
 }
 
 pub fn difference(a: u32, b: u32) -> SymbolAnswer
@@ -44,7 +43,7 @@ pub fn difference(a: u32, b: u32) -> SymbolAnswer
     if above < 2 {
         return refuse(above);
     }
-    SymbolAnswer::Symbol(inner::difference(a, b))
+    SymbolAnswer::Symbol(field::difference(a, b))
 }
 
 pub fn product(a: u32, b: u32) -> SymbolAnswer
@@ -54,7 +53,7 @@ pub fn product(a: u32, b: u32) -> SymbolAnswer
     if above < 2 {
         return refuse(above);
     }
-    SymbolAnswer::Symbol(inner::product(a, b))
+    SymbolAnswer::Symbol(field::product(a, b))
 }
 
 // The exponent is an operand like the base: x to the power 65536 is 1 or 0, so larger ones give nothing new.
@@ -65,7 +64,7 @@ pub fn power(x: u32, exponent: u32) -> SymbolAnswer
     if above < 2 {
         return refuse(above);
     }
-    SymbolAnswer::Symbol(inner::power(x, exponent as usize))
+    SymbolAnswer::Symbol(field::power(x, exponent as usize))
 }
 
 // Zero has no inverse.
@@ -78,5 +77,5 @@ pub fn inverse(x: u32) -> SymbolAnswer
     if x == 0 {
         return refuse(0);
     }
-    SymbolAnswer::Symbol(inner::inverse(x))
+    SymbolAnswer::Symbol(field::inverse(x))
 }

@@ -2,7 +2,6 @@
 use answers::Refusal;
 use field::Point;
 use field::Position;
-use field::inner;
 ghost use mathlib.Core.Path.{_≡_};
 ghost use Rattle.field_calls.specs.Points.{toldPoint, pointAnswer};
 
@@ -18,10 +17,10 @@ pub fn point_at(n: usize, position: Position) -> PointAnswer
     if limits::bad_shape(1, n) {
         return PointAnswer::Refused(Refusal::Shape);
     }
-    let size = inner::size(n);
+    let size = field::size(n);
     let i = position.0;
     if n <= i {
         return PointAnswer::Refused(Refusal::Position(0));
     }
-    PointAnswer::Point(inner::point(position, size))
+    PointAnswer::Point(field::point_of(position, size))
 }

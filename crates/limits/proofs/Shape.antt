@@ -10,7 +10,7 @@ use lib.Dec.{ltb, eqb, lit≤}
 use Rattle.limits.specs.Shape.{longest, badShape}
 use Rattle.field.specs.Size.{levelOf, sizeOf}
 use Rattle.answers.proofs.Checks.{or-false}
-use Rattle.field.proofs.Size.{size-power, size-enough, size-least, level-least, level-size}
+use Rattle.field.proofs.Sizes.{size-power, size-enough, size-least, level-least, level-size}
 
 pub longest-le : longest ≤ 65536
 unfolding longest

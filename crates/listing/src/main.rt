@@ -2,7 +2,7 @@
 // parts of the buffers themselves, because the program may take 65,536 bytes in all and a copy would add to its stack.
 use libc::STDIN_FILENO;
 use libc::STDOUT_FILENO;
-use listing_text::inner::list;
+use listing_text::list;
 ghost use Prim.Native.Nat.{_≤_};
 ghost use lib.ListN.{length};
 

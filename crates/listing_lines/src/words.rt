@@ -1,5 +1,5 @@
 // Words and numbers as text, put into lent bytes from an index on. No entry points and for this crate alone: they ask that there is room.
-use cells::inner::copy_bytes;
+use cells::copy_bytes;
 ghost use mathlib.Core.List.{_++_};
 ghost use Prim.Native.Nat.{_+_, _≤_};
 ghost use lib.ListN.{length};

@@ -18,7 +18,7 @@ use Rattle.answers.specs.declared.refusal.Outcome.the-variants.{Done, Refused}
 use Rattle.answers.specs.declared.refusal.Refusal.{Refusal}
 use Rattle.answers.specs.declared.refusal.Refusal.the-variants.{Shape, Room, Few, Form}
 use Rattle.answers.proofs.Checks.{or-false}
-use Rattle.field.proofs.Size.{size-enough, size-least}
+use Rattle.field.proofs.Sizes.{size-enough, size-least}
 use Rattle.bundle_layout.specs.Fields.{kIn, nIn, lengthIn, heldIn, blocksIn}
 use Rattle.bundle_layout.specs.Layout.{badFront, restGood, layoutChecks}
 use Rattle.bundle_layout.specs.Rooms.{workRoom}

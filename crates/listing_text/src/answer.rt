@@ -2,13 +2,13 @@
 use answers::Outcome;
 use answers::Refusal;
 use bundle::inner::work_room;
-use bundle_gather::inner::start;
+use bundle_gather::start;
 use bundle_layout::inner::held_in;
 use bundle_layout::inner::k_in;
 use bundle_layout::inner::layout_checks;
 use bundle_layout::inner::length_in;
 use bundle_layout::inner::n_in;
-use bundle_read::inner::read_blocks;
+use bundle_read::read_blocks;
 ghost use mathlib.Core.Path.{_≡_};
 ghost use mathlib.Core.List.{[], _∷_};
 ghost use Prim.Native.Nat.{_*_, _≤_};

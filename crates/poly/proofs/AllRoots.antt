@@ -24,7 +24,7 @@ use Rattle.poly.proofs.Distinct.{distinct-tab}
 use Rattle.poly.proofs.Every.{every-map, every-both, every-left, every-tab, every-replicate}
 use Rattle.poly.proofs.Products.{vanishing-length, vanishing-symbols, vanishing-roots, vanishing-last}
 use Rattle.poly.proofs.Tab.{tab-length, with-last}
-use Rattle.poly.proofs.Value.{value-append, value-zeros}
+use Rattle.poly.proofs.Values.{value-append, value-zeros}
 
 module _ (n : ℕ) (zs : List ℕ) (size : length zs ≡ suc n) where
   -- the coefficients below X^N

@@ -1,7 +1,7 @@
 pub mod Tab
 pub mod Window
 pub mod Sum
-pub mod Value
+pub mod Values
 pub mod Parts
 pub mod Every
 pub mod Symbols

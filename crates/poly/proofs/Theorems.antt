@@ -9,7 +9,7 @@ use Rattle.poly.proofs.Division.{divided}
 use Rattle.poly.proofs.Interpolation.{through-length, through-symbols, through-fits, through-unique}
 use Rattle.poly.proofs.Products as Products
 use Rattle.poly.proofs.Symbols.{symbols-at, symbols-every}
-use Rattle.poly.proofs.Value as Value
+use Rattle.poly.proofs.Values as Value
 
 pub plain-sum : PlainSum
 plain-sum = Value.plain-sum

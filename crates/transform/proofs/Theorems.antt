@@ -12,7 +12,7 @@ use Rattle.limits.specs.Shape.{longest}
 use Rattle.field.specs.Size.{levelOf, sizeOf}
 use Rattle.answers.proofs.Checks.{or-false}
 use Rattle.answers.proofs.Leaves.{settled}
-use Rattle.field.proofs.Size.{size-power, size-of-power}
+use Rattle.field.proofs.Sizes.{size-power, size-of-power}
 use Rattle.transform.specs.Lengths.{badLength}
 use Rattle.transform.specs.Theorems.{GoodLengths, TransformSettled, InverseSettled}
 use Rattle.transform.proofs.Judged.{good-size}

@@ -1,8 +1,7 @@
 // The entry points: they test their input, refuse by SHAPE, ROOM and VALUE, and work in the list that they are lent.
 use crate::checks::judge;
 use answers::Outcome;
-use cells::inner::clear;
-use transform_halving::inner;
+use cells::clear;
 ghost use mathlib.Core.Path.{_≡_};
 ghost use Rattle.answers.specs.Leaves.{left};
 ghost use Rattle.answers.specs.Refusals.{toldOutcome};
@@ -15,10 +14,10 @@ fn one_of(back: bool, list: &mut [u32])
     ensures { λ _. ⌜ now (list .exit) ≡ oneOf back (now (list .entry)) ⌝ }
 {
     if back {
-        inner::inverse(list);
+        transform_halving::inverse(list);
         return;
     }
-    inner::transform(list);
+    transform_halving::transform(list);
 }
 
 // Both calls: the checks, the work in place, and the working space cleared.

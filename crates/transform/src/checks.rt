@@ -1,7 +1,7 @@
 // The checks of both entry points, in document 01's order. They write nothing.
 use answers::Outcome;
 use answers::Refusal;
-use field::inner::size;
+use field::size;
 use limits::LONGEST;
 use limits::first_above;
 ghost use mathlib.Core.Path.{_≡_};

@@ -11,7 +11,7 @@ use Rattle.field.specs.Field.{sum, difference, product}
 use Rattle.field.specs.Size.{levelOf}
 use Rattle.field.specs.Symbol.{Symbols}
 use Rattle.field.proofs.Ring.{sum-lt, difference-lt}
-use Rattle.field.proofs.Size.{level-le, level-power}
+use Rattle.field.proofs.Sizes.{level-le, level-power}
 use Rattle.poly.specs.Tab.{tab}
 use Rattle.poly.proofs.Symbols.{append-symbols, tab-symbols}
 use Rattle.poly.proofs.Tab.{tab-length}

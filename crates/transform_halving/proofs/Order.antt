@@ -11,7 +11,7 @@ use lib.ListN.{length, getD}
 use lib.Seq.{take-at, drop-at}
 use Rattle.field.specs.Field.{product}
 use Rattle.field.specs.Size.{levelOf}
-use Rattle.field.proofs.Size.{level-power}
+use Rattle.field.proofs.Sizes.{level-power}
 use Rattle.poly.specs.Parts.{evens, odds}
 use Rattle.poly.specs.Tab.{tab}
 use Rattle.poly.proofs.Parts.{parts-length, parts-at}

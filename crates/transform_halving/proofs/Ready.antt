@@ -8,7 +8,7 @@ use lib.ListN.{length}
 use lib.Pow.{pow-mono}
 use Rattle.field.specs.Size.{levelOf, sizeOf}
 use Rattle.field.specs.Symbol.{Symbols}
-use Rattle.field.proofs.Size.{level-le, size-power, size-of-power}
+use Rattle.field.proofs.Sizes.{level-le, size-power, size-of-power}
 use Rattle.transform_halving.specs.Ready.{Ready}
 
 pub ready-of : (k : ℕ) → k ≤ 16 → (s : List ℕ) → length s ≡ 2 ^ k → Symbols s → Ready s

@@ -14,7 +14,7 @@ use Rattle.field.proofs.Powers.{pow-times, mul-pow, full-power}
 use Rattle.poly.specs.Sum.{total}
 use Rattle.poly.specs.Value.{value}
 use Rattle.poly.proofs.Sum.{total-ext, total-≈, total-scale, total-swap, total-single}
-use Rattle.poly.proofs.Value.{plain-sum, value-tab}
+use Rattle.poly.proofs.Values.{plain-sum, value-tab}
 use Rattle.transform_halving.proofs.Sums.{values}
 
 -- The powers of z, added up

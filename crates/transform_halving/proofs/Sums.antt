@@ -21,7 +21,7 @@ use Rattle.poly.proofs.Parts.{parts-length, parts-at}
 use Rattle.poly.proofs.Sum.{total-ext}
 use Rattle.poly.proofs.Symbols.{tab-symbols}
 use Rattle.poly.proofs.Tab.{tab-length, tab-at, tab-ext, tab-append}
-use Rattle.poly.proofs.Value.{plain-sum, split, value-≈}
+use Rattle.poly.proofs.Values.{plain-sum, split, value-≈}
 use Rattle.transform_halving.specs.Halving.{turned, joined, halving}
 use Rattle.transform_halving.specs.Transform.{sums}
 

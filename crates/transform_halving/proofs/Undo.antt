@@ -17,13 +17,13 @@ use Rattle.field.proofs.Fermat.{inverse-≈}
 use Rattle.field.proofs.Powers.{mul-pow, one-pow}
 use Rattle.field.proofs.Ring.{product-≈, product-lt}
 use Rattle.field.proofs.Roots.{root-full, root-order, powers-distinct}
-use Rattle.field.proofs.Size.{level-le}
+use Rattle.field.proofs.Sizes.{level-le}
 use Rattle.poly.specs.Sum.{total}
 use Rattle.poly.specs.Tab.{tab}
 use Rattle.poly.specs.Value.{value}
 use Rattle.poly.proofs.Sum.{total-≈, total-scale}
 use Rattle.poly.proofs.Tab.{tab-length, tab-ext, tab-getD}
-use Rattle.poly.proofs.Value.{plain-sum, value-tab}
+use Rattle.poly.proofs.Values.{plain-sum, value-tab}
 use Rattle.transform_halving.specs.Ready.{Ready}
 use Rattle.transform_halving.specs.Transform.{transformOf, inverseOf}
 use Rattle.transform_halving.proofs.Ready.{ready-power, ready-short}

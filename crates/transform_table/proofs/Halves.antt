@@ -13,7 +13,7 @@ use Rattle.field.specs.Roots.{root}
 use Rattle.field.specs.Size.{levelOf}
 use Rattle.field.specs.Symbol.{Symbols}
 use Rattle.field.proofs.Roots.{root-square}
-use Rattle.field.proofs.Size.{level-le, level-power}
+use Rattle.field.proofs.Sizes.{level-le, level-power}
 use Rattle.poly.specs.Every.{Every}
 use Rattle.poly.proofs.Every.{every-left, every-right}
 use Rattle.poly.proofs.Symbols.{append-symbols, symbols-at, symbols-every}

@@ -16,7 +16,7 @@ use Rattle.field.proofs.Congruence.{≈-of, ≈-sym, _+≈_, _·≈_, comb}
 use Rattle.poly.specs.Tab.{tab}
 use Rattle.poly.specs.Value.{value}
 use Rattle.poly.proofs.Tab.{tab-ext}
-use Rattle.poly.proofs.Value.{value-≈}
+use Rattle.poly.proofs.Values.{value-≈}
 use Rattle.transform_halving.specs.Ready.{Ready}
 use Rattle.transform_halving.specs.Transform.{sums, transformOf}
 use Rattle.transform_halving.proofs.Arranging.{Paired, Arranging, arranging-all}

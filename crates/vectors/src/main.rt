@@ -2,7 +2,6 @@
 mod show;
 
 use field::Position;
-use field::inner;
 
 fn main() {
     operations();
@@ -38,7 +37,7 @@ fn operands() {
 
 fn roots() {
     for level in 0..17 {
-        let root = inner::root(level);
+        let root = field::root(level);
         show::root(level, root, field_calls::product(root, root));
     }
 }

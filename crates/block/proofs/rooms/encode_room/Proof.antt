@@ -4,7 +4,7 @@ use mathlib.Core.Path.{ap}
 use Prim.Native.Nat.{_*_}
 use native.Mathlib.Omega.{arith}
 use borrow.Author.Needs.{needs}
-use Rattle.field.proofs.Size.{size-small}
+use Rattle.field.proofs.Sizes.{size-small}
 use Rattle.code.specs.Rooms.{encodeRoom}
 use Rattle.block.proofs.rooms.encode_room.Statement.{statement}
 use Rattle.block.proofs.rooms.encode_room.Tie as tie

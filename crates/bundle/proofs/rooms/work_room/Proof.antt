@@ -2,7 +2,7 @@
 -- Assumes nothing.
 use native.Mathlib.Omega.{arith}
 use borrow.Author.Needs.{needs}
-use Rattle.field.proofs.Size.{size-small}
+use Rattle.field.proofs.Sizes.{size-small}
 use Rattle.bundle_layout.specs.Rooms.{workRoom}
 use Rattle.bundle.proofs.rooms.work_room.Statement.{statement}
 use Rattle.bundle.proofs.rooms.work_room.Tie as tie

@@ -3,7 +3,7 @@
 use native.Mathlib.Omega.{arith}
 use borrow.Author.Needs.{needs}
 use Rattle.limits.specs.Shape.{longest}
-use Rattle.field.proofs.Size.{size-enough}
+use Rattle.field.proofs.Sizes.{size-enough}
 use Rattle.bundle_storage.specs.Blocks.{mostBlocks}
 use Rattle.bundle_layout.proofs.Holding.{limits}
 use Rattle.bundle_layout.proofs.Passing.{bundle-shape-told}

@@ -5,7 +5,7 @@ use native.Mathlib.Omega.{arith}
 use borrow.Author.Needs.{needs}
 use lib.ListN.{length}
 use Rattle.answers.specs.declared.refusal.Refusal.the-variants.{Disagree}
-use Rattle.field.proofs.Size.{size-small}
+use Rattle.field.proofs.Sizes.{size-small}
 use Rattle.bundle_layout.proofs.Passing.{header-inside}
 use Rattle.bundle_read.proofs.BlockReading.{refused-none, block-message, block-none, bytes-more}
 use Rattle.bundle_read.proofs.Solving.{part-inside, solve-ready, message-there, cells-kept, laid-after, none-decoded, message-decoded, message-good}

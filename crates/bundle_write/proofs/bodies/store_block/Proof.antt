@@ -6,7 +6,7 @@ use native.Mathlib.Omega.{arith}
 use borrow.Author.Needs.{needs}
 use lib.ListN.{length}
 use Rattle.limits.specs.Shape.{longest}
-use Rattle.field.proofs.Size.{size-small}
+use Rattle.field.proofs.Sizes.{size-small}
 use Rattle.bundle_layout.specs.Shape.{longestFile}
 use Rattle.bundle_storage.specs.Storage.{countOf}
 use Rattle.bundle_layout.proofs.Holding.{limits}

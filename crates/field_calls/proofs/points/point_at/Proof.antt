@@ -28,4 +28,4 @@ point-at-spec =
       lt-leb _ _ (c .before .if2 .left),
     )
     (ap (λ (v : ℕ). result (v ∷ []))
-    (c .point .ensures .is ∙ ap (λ (size : ℕ). pointOf size (c .before .before .before .before .before .args .position .0)) (c .before .before .size .ensures)))))
+    (c .point-of .ensures .is ∙ ap (λ (size : ℕ). pointOf size (c .before .before .before .before .before .args .position .0)) (c .before .before .size .ensures)))))

@@ -6,15 +6,15 @@ use Prim.Native.Nat.{ℕ, _-_, _≤_}
 use native.Mathlib.Omega.{arith}
 use lib.ListN.{length, take, drop, replicate, drop-of-length-le}
 use lib.Seq.{length-take-le}
-use Rattle.answers.specs.Leaves.{Leaves, left, unlessRefused, zeroed, Settled}
+use Rattle.answers.specs.Leaves.{Leaves, leaving, unlessRefused, zeroed, OutcomeSettled}
 use Rattle.answers.specs.Refusals.{Answer, result, refused, toldOutcome}
 use Rattle.answers.specs.declared.refusal.Outcome.{Outcome}
 use Rattle.answers.specs.declared.refusal.Outcome.the-variants.{Done, Refused}
 use Rattle.answers.specs.declared.refusal.Refusal.{Refusal}
 use Rattle.answers.proofs.Refusals.{told-outcome-one}
 
-pub settled : (it : Leaves) → Settled it
-settled it r s l m w v p q =
+pub outcome-settled : (it : Leaves) → OutcomeSettled it
+outcome-settled it r s l m w v p q =
     let same = p ∙ sym q in (
       told-outcome-one r s (ap (λ (x : Leaves). x .answer) same),
       ap (λ (x : Leaves). x .list) same,
@@ -32,7 +32,7 @@ told-refused a o x told done = sym told ∙ ap toldOutcome done
 -- what a call leaves where its checks refused, and where they passed
 
 pub leaves-refused : (a : Answer) (x : Refusal) (list work : List ℕ) (later : Leaves) → a ≡ refused x
-    → left (refused x) list work ≡ unlessRefused a list work later
+    → leaving (refused x) list work ≡ unlessRefused a list work later
 leaves-refused a x list work later bad = ap (λ (b : Answer). unlessRefused b list work later) (sym bad)
 
 pub leaves-done : (a : Answer) (list work : List ℕ) (later : Leaves) → a ≡ result [] → later ≡ unlessRefused a list work later

@@ -11,12 +11,12 @@ pub record Leaves : Type 0 where
   pub list : List ℕ
   pub work : List ℕ
 
-abbrev pub left : Answer → List ℕ → List ℕ → Leaves
-left answer list work = record { answer = answer; list = list; work = work }
+abbrev pub leaving : Answer → List ℕ → List ℕ → Leaves
+leaving answer list work = record { answer = answer; list = list; work = work }
 
 -- "On refusals 1 to 7 and 11 nothing lent is written": where the checks refuse, else what the work leaves
 abbrev pub unlessRefused : Answer → List ℕ → List ℕ → Leaves → Leaves
-unlessRefused (refusal n i) list work later = left (refusal n i) list work
+unlessRefused (refusal n i) list work later = leaving (refusal n i) list work
 unlessRefused (result vs) list work later = later
 
 -- "the output holds the result at its front and is untouched after it"
@@ -28,7 +28,7 @@ abbrev pub zeroed : ℕ → List ℕ → List ℕ
 zeroed stated work = replicate stated 0 ++ drop stated work
 
 -- a promise settles what a call leaves: two outcomes that meet it are equal, the answer and every cell
-abbrev pub Settled : Leaves → Type 0
-Settled it =
-    (r s : Outcome) (l m w v : List ℕ) → left (toldOutcome r) l w ≡ it → left (toldOutcome s) m v ≡ it
+abbrev pub OutcomeSettled : Leaves → Type 0
+OutcomeSettled it =
+    (r s : Outcome) (l m w v : List ℕ) → leaving (toldOutcome r) l w ≡ it → leaving (toldOutcome s) m v ≡ it
     → (r ≡ s) × (l ≡ m) × (w ≡ v)

@@ -15,7 +15,7 @@ use Rattle.code.specs.Code.{symbolOf}
 use Rattle.code.specs.Fits.{Fits}
 use Rattle.code.specs.Held.{Held}
 use Rattle.code.specs.Message.{IsMessage}
-use Rattle.code.specs.Ready.{Ready}
+use Rattle.code.specs.Decodable.{Decodable}
 use Rattle.block.proofs.Agreement.{differing, few-differ}
 
 module _ (k n : ℕ) (sent : List ℕ) (h : Held) where
@@ -44,7 +44,7 @@ module _ (k n : ℕ) (sent : List ℕ) (h : Held) where
       total-ext (length (h .positions)) _ _
       (λ j l. ap (λ (v : ℕ). cond (eqb (symbolOf n sent (getD (h .positions) j 0)) v) 0 1) (sym (fits .at j l)))
 
-  pub few-altered : Ready k n h → IsMessage k sent → alteredCount n sent h + k ≤ length (h .positions) → (t : List ℕ) → Fits k n h t → sent ≡ t
-  few-altered ready is few t fits =
-      few-differ k n sent t (h .positions) (shape-good k n (ready .shape) .2) is (fits .message) (ready .inside) (ready .apart)
+  pub few-altered : Decodable k n h → IsMessage k sent → alteredCount n sent h + k ≤ length (h .positions) → (t : List ℕ) → Fits k n h t → sent ≡ t
+  few-altered able is few t fits =
+      few-differ k n sent t (h .positions) (shape-good k n (able .shape) .2) is (fits .message) (able .inside) (able .apart)
       (omega (arith, altered-differing t fits))

@@ -1,4 +1,4 @@
--- What the checks of encode and decode let through, both ways: a call that they pass is ready, and one that is ready passes them.
+-- What the checks of encode and decode let through, both ways: a call that they pass can be worked on, and one that can be passes them.
 -- Assumes nothing.
 use mathlib.Core.Path.{_≡_, refl, sym}
 use mathlib.Core.Bool.{not, _||_}
@@ -18,7 +18,7 @@ use Rattle.block.specs.Checks.{encodeChecks, decodeChecks}
 use Rattle.code.specs.Held.{held}
 use Rattle.code.specs.Positions.{firstOutside}
 use Rattle.code.specs.Codable.{Codable}
-use Rattle.code.specs.Ready.{Ready}
+use Rattle.code.specs.Decodable.{Decodable}
 use Rattle.code.specs.Repeats.{firstRepeat}
 use Rattle.code.specs.Rooms.{encodeRoom, decodeRoom}
 use Rattle.code_positions.proofs.Outside.{outside-none, none-outside}
@@ -54,7 +54,7 @@ encode-passes k n message out work good is enough room =
     )
 
 pub decode-passed : (k n : ℕ) (positions values : List ℕ) (out work : ℕ) → decodeChecks k n positions values out work ≡ result []
-    → Ready k n (held positions values) × (k ≤ out) × (decodeRoom n ≤ work)
+    → Decodable k n (held positions values) × (k ≤ out) × (decodeRoom n ≤ work)
 unfolding decodeChecks held
 decode-passed k n positions values out work e =
     let shape = passed (badShape k n) Shape _ [] e in
@@ -77,17 +77,17 @@ decode-passed k n positions values out work e =
       ltb-false work (decodeRoom n) (enough .1),
     )
 
-pub decode-passes : (k n : ℕ) (positions values : List ℕ) (out work : ℕ) → Ready k n (held positions values) → k ≤ out
+pub decode-passes : (k n : ℕ) (positions values : List ℕ) (out work : ℕ) → Decodable k n (held positions values) → k ≤ out
     → decodeRoom n ≤ work → decodeChecks k n positions values out work ≡ result []
 unfolding decodeChecks held
-decode-passes k n positions values out work ready enough room =
+decode-passes k n positions values out work able enough room =
     simp (
-      ready .shape,
-      eq-eqb (length positions) (length values) (ready .paired),
+      able .shape,
+      eq-eqb (length positions) (length values) (able .paired),
       le-ltb out k enough,
       le-ltb work (decodeRoom n) room,
-      le-ltb (length positions) k (ready .enough),
-      le-ltb (firstOutside n positions) (length positions) (le-of-eq (sym (none-outside n positions (ready .inside)))),
-      le-ltb (firstRepeat positions) (length positions) (le-of-eq (sym (none-repeat positions (ready .apart)))),
-      le-ltb (firstAbove values) (length values) (le-of-eq (sym (none-above values (ready .symbols)))),
+      le-ltb (length positions) k (able .enough),
+      le-ltb (firstOutside n positions) (length positions) (le-of-eq (sym (none-outside n positions (able .inside)))),
+      le-ltb (firstRepeat positions) (length positions) (le-of-eq (sym (none-repeat positions (able .apart)))),
+      le-ltb (firstAbove values) (length values) (le-of-eq (sym (none-above values (able .symbols)))),
     )

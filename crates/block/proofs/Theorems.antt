@@ -19,7 +19,7 @@ use Rattle.limits.specs.Shape.{longest, badShape}
 use Rattle.field.specs.Size.{levelOf, sizeOf}
 use Rattle.limits.specs.Values.{firstAbove}
 use Rattle.answers.specs.declared.refusal.Refusal.the-variants.{Disagree}
-use Rattle.answers.proofs.Leaves.{leaves-done, settled}
+use Rattle.answers.proofs.Leaves.{leaves-done, outcome-settled}
 use Rattle.limits.proofs.Values.{all-symbols}
 use Rattle.poly.specs.Sum.{total}
 use Rattle.poly.specs.Tab.{tab}
@@ -37,7 +37,7 @@ use Rattle.code.specs.Held.{held}
 use Rattle.code.specs.Meeting.{polynomialOf}
 use Rattle.code.specs.Message.{IsMessage}
 use Rattle.code.specs.Positions.{firstOutside}
-use Rattle.code.specs.Ready.{Ready}
+use Rattle.code.specs.Decodable.{Decodable}
 use Rattle.code.specs.Repeats.{standsEarlier, firstRepeat}
 use Rattle.code.specs.Rooms.{decodeRoom}
 use Rattle.block.specs.Theorems.{CodeWordSymbols, NeverAgree, FitsOne, DecodesFitting, DecodesNone, EncodeChecksPass, DecodeChecksPass, Decodes, Disagrees, EncodesWord, EncodeDecode, DisagreeExactly, Demand3, NeverAnother, WorkedNumbers, EncodeSettled, DecodeSettled}
@@ -99,24 +99,24 @@ encodes-word k n message good is out work enough room =
     record { shape = rw (is .long) good; symbols = is .symbols }
     (is .long) enough room))
 
-module _ (k n : ℕ) (positions values : List ℕ) (ready : Ready k n (held positions values)) where
+module _ (k n : ℕ) (positions values : List ℕ) (able : Decodable k n (held positions values)) where
   decode-leaves : (found : Option (List ℕ)) → decodeOf k n (held positions values) ≡ found → (out work : List ℕ) → k ≤ length out
       → decodeRoom n ≤ length work → decodeLeaves k n positions values out work ≡ decoded found n out work
   decode-leaves found is out work enough room =
       sym (leaves-done (decodeChecks k n positions values (length out) (length work)) out work _
-      (decode-passes k n positions values (length out) (length work) ready enough room))
+      (decode-passes k n positions values (length out) (length work) able enough room))
       ∙ ap (λ (o : Option (List ℕ)). decoded o n out work) is
 
   fitting-decodes : (s : List ℕ) → Fits k n (held positions values) s → Decodes k n positions values s
-  fitting-decodes s fits = decode-leaves (some s) (decodes-fitting k n _ ready s .1 fits)
+  fitting-decodes s fits = decode-leaves (some s) (decodes-fitting k n _ able s .1 fits)
 
   none-disagrees : ((s : List ℕ) → ¬ Fits k n (held positions values) s) → Disagrees k n positions values
-  none-disagrees never = decode-leaves none (decodes-none k n _ ready .1 never)
+  none-disagrees never = decode-leaves none (decodes-none k n _ able .1 never)
 
 pub encode-decode : EncodeDecode
 unfolding held
 encode-decode k n message positions good is enough inside apart =
-    fitting-decodes k n positions _ ready message record { message = is; at = λ j l. sym (at j l) }
+    fitting-decodes k n positions _ able message record { message = is; at = λ j l. sym (at j l) }
   where
     sent : ℕ → ℕ
     sent j = getD (codeWord n message) (getD positions j 0) 0
@@ -124,8 +124,8 @@ encode-decode k n message positions good is enough inside apart =
     at : (j : ℕ) → j < length positions → getD (tab (length positions) sent) j 0 ≡ symbolOf n message (getD positions j 0)
     at j l = tab-at (length positions) sent j l ∙ code-word-at n message _ (inside j l)
 
-    ready : Ready k n (held positions (tab (length positions) sent))
-    ready =
+    able : Decodable k n (held positions (tab (length positions) sent))
+    able =
         record {
           shape = good;
           paired = sym (tab-length (length positions) sent);
@@ -142,8 +142,8 @@ disagree-exactly k n positions values out work = (forth, back)
         → (decodeChecks k n positions values (length out) (length work) ≡ result []) × ((s : List ℕ) → ¬ Fits k n (held positions values) s)
     forth e =
         let found = disagree-none _ _ n out work (checks-before k n positions values (length out) (length work)) e in
-        let ready = decode-passed k n positions values (length out) (length work) (found .0) .0 in
-        (found .0, decodes-none k n _ ready .0 (found .1))
+        let able = decode-passed k n positions values (length out) (length work) (found .0) .0 in
+        (found .0, decodes-none k n _ able .0 (found .1))
 
     back : (decodeChecks k n positions values (length out) (length work) ≡ result []) × ((s : List ℕ) → ¬ Fits k n (held positions values) s)
         → decodeLeaves k n positions values out work .answer ≡ refused (Disagree 0)
@@ -155,7 +155,7 @@ disagree-exactly k n positions values out work = (forth, back)
 
 pub never-another : NeverAnother
 unfolding held
-never-another k n sent positions values ready is few =
+never-another k n sent positions values able is few =
     record {
       never-another =
           elim (eq-or-lt-of-le {m = alteredCount n sent (held positions values)} zero-le)
@@ -165,13 +165,13 @@ never-another k n sent positions values ready is few =
     }
   where
     sound : alteredCount n sent (held positions values) ≡ 0 → Decodes k n positions values sent
-    sound all = fitting-decodes k n positions values ready sent (none-fits k n sent _ is all)
+    sound all = fitting-decodes k n positions values able sent (none-fits k n sent _ is all)
 
     -- a message that fits would be the sent one
     broken : 0 < alteredCount n sent (held positions values) → Disagrees k n positions values
     broken any =
-        none-disagrees k n positions values ready
-        (λ t fits. omega (arith, fits-none k n sent _ (subst (Fits k n _) (sym (few-altered k n sent _ ready is few t fits)) fits)))
+        none-disagrees k n positions values able
+        (λ t fits. omega (arith, fits-none k n sent _ (subst (Fits k n _) (sym (few-altered k n sent _ able is few t fits)) fits)))
 
 -- The worked numbers: decoding is compared with a sent message, so that no inverse is computed
 
@@ -210,7 +210,7 @@ worked-numbers =
     }
 
 pub encode-settled : EncodeSettled
-encode-settled k n message out work = settled _
+encode-settled k n message out work = outcome-settled _
 
 pub decode-settled : DecodeSettled
-decode-settled k n positions values out work = settled _
+decode-settled k n positions values out work = outcome-settled _

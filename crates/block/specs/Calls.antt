@@ -2,7 +2,7 @@
 use mathlib.Core.List.{List, []}
 use Prim.Native.Nat.{ℕ}
 use lib.ListN.{length}
-use Rattle.answers.specs.Leaves.{Leaves, left, unlessRefused, written, zeroed}
+use Rattle.answers.specs.Leaves.{Leaves, leaving, unlessRefused, written, zeroed}
 use Rattle.answers.specs.Refusals.{result}
 use Rattle.block.specs.Checks.{encodeChecks, decodeChecks}
 use Rattle.code.specs.Code.{codeWord}
@@ -14,7 +14,7 @@ use Rattle.code.specs.Rooms.{encodeRoom}
 abbrev pub encodeLeaves : ℕ → ℕ → List ℕ → List ℕ → List ℕ → Leaves
 encodeLeaves k n message out work =
     unlessRefused (encodeChecks k n message (length out) (length work)) out work
-    (left (result []) (written (codeWord n message) out) (zeroed (encodeRoom n) work))
+    (leaving (result []) (written (codeWord n message) out) (zeroed (encodeRoom n) work))
 
 abbrev pub decodeLeaves : ℕ → ℕ → List ℕ → List ℕ → List ℕ → List ℕ → Leaves
 decodeLeaves k n positions values out work =

@@ -6,7 +6,7 @@ use mathlib.Core.Logic.{_⊎_, _↔_}
 use mathlib.Core.Option.{some, none}
 use Prim.Native.Nat.{ℕ, _+_, _<_, _≤_}
 use lib.ListN.{length, getD}
-use Rattle.answers.specs.Leaves.{Settled, left, written, zeroed}
+use Rattle.answers.specs.Leaves.{OutcomeSettled, leaving, written, zeroed}
 use Rattle.answers.specs.Refusals.{result, refused}
 use Rattle.limits.specs.Shape.{longest, badShape}
 use Rattle.field.specs.Symbol.{Symbols}
@@ -22,7 +22,7 @@ use Rattle.code.specs.Held.{Held, held, heldCount}
 use Rattle.code.specs.Message.{IsMessage}
 use Rattle.code.specs.Positions.{Inside}
 use Rattle.code.specs.Codable.{Codable}
-use Rattle.code.specs.Ready.{Ready}
+use Rattle.code.specs.Decodable.{Decodable}
 use Rattle.code.specs.Repeats.{Apart}
 use Rattle.code.specs.Rooms.{encodeRoom, decodeRoom}
 
@@ -41,15 +41,15 @@ NeverAgree =
 -- The message that fits
 
 abbrev pub FitsOne : Type 0
-FitsOne = (k n : ℕ) (h : Held) → Ready k n h → (s t : List ℕ) → Fits k n h s → Fits k n h t → s ≡ t
+FitsOne = (k n : ℕ) (h : Held) → Decodable k n h → (s t : List ℕ) → Fits k n h s → Fits k n h t → s ≡ t
 
 -- decoding gives a message exactly if it fits
 abbrev pub DecodesFitting : Type 0
-DecodesFitting = (k n : ℕ) (h : Held) → Ready k n h → (s : List ℕ) → (decodeOf k n h ≡ some s) ↔ Fits k n h s
+DecodesFitting = (k n : ℕ) (h : Held) → Decodable k n h → (s : List ℕ) → (decodeOf k n h ≡ some s) ↔ Fits k n h s
 
 -- and none exactly if none fits
 abbrev pub DecodesNone : Type 0
-DecodesNone = (k n : ℕ) (h : Held) → Ready k n h → (decodeOf k n h ≡ none) ↔ ((s : List ℕ) → ¬ Fits k n h s)
+DecodesNone = (k n : ℕ) (h : Held) → Decodable k n h → (decodeOf k n h ≡ none) ↔ ((s : List ℕ) → ¬ Fits k n h s)
 
 -- The calls: what the checks let through
 
@@ -63,7 +63,7 @@ abbrev pub DecodeChecksPass : Type 0
 DecodeChecksPass =
     (k n : ℕ) (positions values : List ℕ) (out work : ℕ)
     → (decodeChecks k n positions values out work ≡ result [])
-    ↔ (Ready k n (held positions values) × (k ≤ out) × (decodeRoom n ≤ work))
+    ↔ (Decodable k n (held positions values) × (k ≤ out) × (decodeRoom n ≤ work))
 
 -- The calls: what they leave, given room
 
@@ -71,19 +71,19 @@ DecodeChecksPass =
 abbrev pub Encodes : ℕ → ℕ → List ℕ → List ℕ → Type 0
 Encodes k n message word =
     (out work : List ℕ) → n ≤ length out → encodeRoom n ≤ length work
-    → encodeLeaves k n message out work ≡ left (result []) (written word out) (zeroed (encodeRoom n) work)
+    → encodeLeaves k n message out work ≡ leaving (result []) (written word out) (zeroed (encodeRoom n) work)
 
 -- decode leaves this message
 abbrev pub Decodes : ℕ → ℕ → List ℕ → List ℕ → List ℕ → Type 0
 Decodes k n positions values message =
     (out work : List ℕ) → k ≤ length out → decodeRoom n ≤ length work
-    → decodeLeaves k n positions values out work ≡ left (result []) (written message out) (zeroed (decodeRoom n) work)
+    → decodeLeaves k n positions values out work ≡ leaving (result []) (written message out) (zeroed (decodeRoom n) work)
 
 -- decode answers DISAGREE
 abbrev pub Disagrees : ℕ → ℕ → List ℕ → List ℕ → Type 0
 Disagrees k n positions values =
     (out work : List ℕ) → k ≤ length out → decodeRoom n ≤ length work
-    → decodeLeaves k n positions values out work ≡ left (refused (Disagree 0)) out (zeroed (decodeRoom n) work)
+    → decodeLeaves k n positions values out work ≡ leaving (refused (Disagree 0)) out (zeroed (decodeRoom n) work)
 
 -- demand 2: every good message is coded
 abbrev pub EncodesWord : Type 0
@@ -117,7 +117,7 @@ pub record Demand3 (k n : ℕ) (sent positions values : List ℕ) : Type 0 where
 
 abbrev pub NeverAnother : Type 0
 NeverAnother =
-    (k n : ℕ) (sent positions values : List ℕ) → Ready k n (held positions values) → IsMessage k sent
+    (k n : ℕ) (sent positions values : List ℕ) → Decodable k n (held positions values) → IsMessage k sent
     → alteredCount n sent (held positions values) + k ≤ heldCount (held positions values) → Demand3 k n sent positions values
 
 -- The worked numbers P5 to P10
@@ -133,7 +133,7 @@ pub record WorkedNumbers : Type 0 where
 -- Two outcomes of a call are equal: the answer, every cell of the output and of the working space
 
 abbrev pub EncodeSettled : Type 0
-EncodeSettled = (k n : ℕ) (message out work : List ℕ) → Settled (encodeLeaves k n message out work)
+EncodeSettled = (k n : ℕ) (message out work : List ℕ) → OutcomeSettled (encodeLeaves k n message out work)
 
 abbrev pub DecodeSettled : Type 0
-DecodeSettled = (k n : ℕ) (positions values out work : List ℕ) → Settled (decodeLeaves k n positions values out work)
+DecodeSettled = (k n : ℕ) (positions values out work : List ℕ) → OutcomeSettled (decodeLeaves k n positions values out work)

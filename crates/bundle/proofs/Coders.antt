@@ -10,7 +10,7 @@ use lib.Dec.{lit<, lit≤}
 use lib.ListN.{length, getD, replicate, length-replicate}
 use Rattle.field.specs.Field.{power}
 use Rattle.answers.specs.First.{first}
-use Rattle.answers.specs.Leaves.{Leaves, left}
+use Rattle.answers.specs.Leaves.{Leaves, leaving}
 use Rattle.field.specs.Points.{rootOf, pointOf}
 use Rattle.answers.specs.Refusals.{result}
 use Rattle.field.specs.Roots.{roots, root}
@@ -52,7 +52,7 @@ record Told (it : Leaves) (place x : ℕ) : Type 0 where
   answer : it .answer ≡ result results
   there : getD (it .list) place 0 ≡ x
 
-told : {it : Leaves} (place x : ℕ) (vs l w : List ℕ) → it ≡ left (result vs) l w → getD l place 0 ≡ x → Told it place x
+told : {it : Leaves} (place x : ℕ) (vs l w : List ℕ) → it ≡ leaving (result vs) l w → getD l place 0 ≡ x → Told it place x
 told place x vs l w e there =
     record {
       results = vs;

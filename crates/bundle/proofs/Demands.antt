@@ -23,7 +23,7 @@ use Rattle.bundle_file.specs.File.{messageAt, shadowOf, bundleAt, fileBundle}
 use Rattle.bundle_read.specs.Reading.{heldAt, decodedAt}
 use Rattle.bundle.specs.Theorems.{WritesBundle, WriteRead, LoseRead, DisagreeExactly, NeverAnother, TakenIsSent}
 use Rattle.bundle.proofs.BlockAnswers.{block-disagrees}
-use Rattle.bundle_read.proofs.HeldBlocks.{ready}
+use Rattle.bundle_read.proofs.HeldBlocks.{held-decodable}
 use Rattle.bundle.proofs.Passing.{write-passes, after-passed, after-disagree, read-before, read-passed}
 use Rattle.bundle_front.proofs.Bundling.{file-is-bundle, held-all, all-rise}
 use Rattle.bundle.proofs.Shadowing.{bundle-bytes, none-altered}
@@ -57,10 +57,10 @@ disagree-exactly s out work bytes b = (
         found .0,
         omega arith,
         λ c h. here .2 c zero-le h,
-        decodes-none (kIn s) (nIn s) (heldAt s b) (ready s b bytes (rooms .0) (rooms .3)) .0 (here .3),
+        decodes-none (kIn s) (nIn s) (heldAt s b) (held-decodable s b bytes (rooms .0) (rooms .3)) .0 (here .3),
       ),
   λ p. let rooms = read-passed s (length out) (length work) (p .0) in
-      let never = decodes-none (kIn s) (nIn s) (heldAt s b) (ready s b bytes (rooms .0) (rooms .3)) .1 (p .3) in
+      let never = decodes-none (kIn s) (nIn s) (heldAt s b) (held-decodable s b bytes (rooms .0) (rooms .3)) .1 (p .3) in
       ap (λ (l : Leaves). l .answer)
       (read-leaves s out work (refused (Disagree b)) (p .0)
       (first-refused s 8 b (blocksIn s) 0 b zero-le (omega arith) (λ c h l. p .2 c l) (block-disagrees s b never))),

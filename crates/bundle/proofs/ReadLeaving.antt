@@ -7,7 +7,7 @@ use native.Mathlib.Nat.{min-le-left}
 use native.Mathlib.Omega.{arith}
 use lib.ListN.{length, take, drop, replicate, length-take, length-replicate, take-append-drop, drop-of-length-le}
 use lib.Seq.{length-take-le, take-all, drop-append-le}
-use Rattle.answers.specs.Leaves.{Leaves, left, written, zeroed}
+use Rattle.answers.specs.Leaves.{Leaves, leaving, written, zeroed}
 use Rattle.answers.specs.Refusals.{Answer, result, refusal, refused, toldOutcome, after}
 use Rattle.answers.specs.declared.refusal.Outcome.{Outcome}
 use Rattle.answers.specs.declared.refusal.Outcome.the-variants.{Done, Refused}
@@ -34,19 +34,19 @@ module _ (s file cells f c : List ℕ) (long : length file ≡ lengthIn s) (room
   zero = cleared ∙ ap (λ (z : ℕ). replicate z 0) (same ∙ room) ∙ sym (zeroed-all (workRoom (nIn s)) cells room)
 
   pub leaves-file : o ≡ Done → (L : ℕ) → L ≡ lengthIn s → length f ≡ length file → (toldOutcome o ≡ result [] → f ≡ take (length file) (fileIn s))
-      → left (result (L ∷ [])) f c ≡ blocksLeave (blocksAnswer s 0 (blocksIn s)) s file cells
+      → leaving (result (L ∷ [])) f c ≡ blocksLeave (blocksAnswer s 0 (blocksIn s)) s file cells
   leaves-file done L is kept file-is =
-      ap₂ (left (result (L ∷ []))) (whole ∙ ap (λ (t : List ℕ). written t file) (file-is (ap toldOutcome done) ∙ take-all (length file) (fileIn s) (omega (arith, long, file-short s)))) zero
-      ∙ ap (λ (z : ℕ). left (result (z ∷ [])) (written (fileIn s) file) (zeroed (workRoom (nIn s)) cells)) is
+      ap₂ (leaving (result (L ∷ []))) (whole ∙ ap (λ (t : List ℕ). written t file) (file-is (ap toldOutcome done) ∙ take-all (length file) (fileIn s) (omega (arith, long, file-short s)))) zero
+      ∙ ap (λ (z : ℕ). leaving (result (z ∷ [])) (written (fileIn s) file) (zeroed (workRoom (nIn s)) cells)) is
       ∙ ap (λ (a : Answer). blocksLeave a s file cells) (ap (λ (p : Outcome). after (toldOutcome p) (result (lengthIn s ∷ []))) (sym done) ∙ told)
     where
       whole : f ≡ written f file
       whole = sym (written-all f file (omega (arith, kept)))
 
   pub leaves-refusal : (x : Refusal) → o ≡ Refused x → (L : ℕ) → L ≡ length file → f ≡ replicate L 0
-      → left (refused x) f c ≡ blocksLeave (blocksAnswer s 0 (blocksIn s)) s file cells
+      → leaving (refused x) f c ≡ blocksLeave (blocksAnswer s 0 (blocksIn s)) s file cells
   leaves-refusal x bad L is zeros =
-      ap₂ (left (refused x))
+      ap₂ (leaving (refused x))
       (zeros ∙ ap (λ (z : ℕ). replicate z 0) (is ∙ long)
       ∙ sym (written-all (replicate (lengthIn s) 0) file (omega (arith, length-replicate {A = ℕ} (lengthIn s) 0, long)))) zero
       ∙ ap (λ (a : Answer). blocksLeave a s file cells) (ap (λ (p : Outcome). after (toldOutcome p) (result (lengthIn s ∷ []))) (sym bad) ∙ told)
@@ -62,19 +62,19 @@ again-written vs out L stated is enough fits =
 
 -- with what lies behind the stated parts put back
 extended : List ℕ → List ℕ → Leaves → Leaves
-extended rest behind it = left (it .answer) (it .list ++ rest) (it .work ++ behind)
+extended rest behind it = leaving (it .answer) (it .list ++ rest) (it .work ++ behind)
 
 pub blocks-whole : (s : List ℕ) (answer a : Answer) (L room : ℕ) (out work f c : List ℕ) → L ≡ lengthIn s → room ≡ workRoom (nIn s)
-    → lengthIn s ≤ length out → workRoom (nIn s) ≤ length work → left a f c ≡ blocksLeave answer s (take (L - 0) out) (take (room - 0) work)
-    → left a (f ++ drop (L - 0) out) (c ++ drop (room - 0) work) ≡ blocksLeave answer s out work
+    → lengthIn s ≤ length out → workRoom (nIn s) ≤ length work → leaving a f c ≡ blocksLeave answer s (take (L - 0) out) (take (room - 0) work)
+    → leaving a (f ++ drop (L - 0) out) (c ++ drop (room - 0) work) ≡ blocksLeave answer s out work
 unfolding extended
 blocks-whole s (refusal number place) a L room out work f c first second enough space leaves =
     ap (extended (drop (L - 0) out) (drop (room - 0) work)) leaves
-    ∙ ap₂ (left (refusal number place))
+    ∙ ap₂ (leaving (refusal number place))
     (again-written (replicate (lengthIn s) 0) out (lengthIn s) L first enough (omega (arith, length-replicate {A = ℕ} (lengthIn s) 0)))
     (zeroed-again room (workRoom (nIn s)) work second space)
 blocks-whole s (result vs) a L room out work f c first second enough space leaves =
     ap (extended (drop (L - 0) out) (drop (room - 0) work)) leaves
-    ∙ ap₂ (left (result vs))
+    ∙ ap₂ (leaving (result vs))
     (again-written (fileIn s) out (lengthIn s) L first enough (file-short s))
     (zeroed-again room (workRoom (nIn s)) work second space)

@@ -12,7 +12,7 @@ use lib.Dec.{ltb}
 use lib.ListN.{length, take, replicate}
 use lib.Seq.{take-at}
 use Rattle.answers.specs.First.{first}
-use Rattle.answers.specs.Leaves.{left, written, zeroed}
+use Rattle.answers.specs.Leaves.{leaving, written, zeroed}
 use Rattle.answers.specs.Refusals.{result, refused}
 use Rattle.answers.specs.declared.refusal.Refusal.the-variants.{Disagree}
 use Rattle.answers.proofs.First.{first-before, first-holds}
@@ -36,7 +36,7 @@ use Rattle.bundle_file.proofs.Padding.{padded-words, message-is}
 use Rattle.bundle.proofs.Tails.{word-good, tail-good}
 use Rattle.bundle.proofs.Passing.{read-passes}
 use Rattle.bundle.proofs.BlockAnswers.{block-taken, block-disagrees}
-use Rattle.bundle_read.proofs.HeldBlocks.{held-count, ready}
+use Rattle.bundle_read.proofs.HeldBlocks.{held-count, held-decodable}
 use Rattle.bundle.proofs.Walking.{all-taken, first-refused, read-leaves}
 
 module _ (file s : List ℕ) (bytes : Bytes file) (of-bytes : Bytes s) (good : layoutChecks s ≡ result []) (enough : kIn s ≤ heldIn s)
@@ -48,7 +48,7 @@ module _ (file s : List ℕ) (bytes : Bytes file) (of-bytes : Bytes s) (good : l
   decoded : (b : ℕ) → altered b ≡ 0 → decodedAt s b ≡ some (messageAt (kIn s) file b)
   unfolding decodedAt
   decoded b all =
-      decodes-fitting (kIn s) (nIn s) (heldAt s b) (ready s b of-bytes good enough) (messageAt (kIn s) file b) .1
+      decodes-fitting (kIn s) (nIn s) (heldAt s b) (held-decodable s b of-bytes good enough) (messageAt (kIn s) file b) .1
       (none-fits (kIn s) (nIn s) (messageAt (kIn s) file b) (heldAt s b) (message-is (kIn s) file bytes b) all)
 
   taken : (b : ℕ) → altered b ≡ 0 → blockAnswer s b ≡ result []
@@ -59,7 +59,7 @@ module _ (file s : List ℕ) (bytes : Bytes file) (of-bytes : Bytes s) (good : l
   disagrees : (b : ℕ) → altered b + kIn s ≤ heldIn s → 0 < altered b → blockAnswer s b ≡ refused (Disagree b)
   unfolding decodedAt
   disagrees b few any =
-      let set = ready s b of-bytes good enough in
+      let set = held-decodable s b of-bytes good enough in
       let sent = messageAt (kIn s) file b in
       let is = message-is (kIn s) file bytes b in
       block-disagrees s b
@@ -96,7 +96,7 @@ module _ (file s : List ℕ) (bytes : Bytes file) (of-bytes : Bytes s) (good : l
       read-leaves s out work (result (lengthIn s ∷ []))
       (read-passes s (length out) (length work) good (omega arith) room enough)
       (all-taken s (blocksIn s) 0 (λ c h l. taken c (each c (omega arith))))
-      ∙ ap₂ (λ (L : ℕ) (f : List ℕ). left (result (L ∷ [])) (written f out) (zeroed (workRoom (nIn s)) work)) long (file-back each)
+      ∙ ap₂ (λ (L : ℕ) (f : List ℕ). leaving (result (L ∷ [])) (written f out) (zeroed (workRoom (nIn s)) work)) long (file-back each)
 
   refuses : (b : ℕ) → b < blocksIn s → ((c : ℕ) → c < b → altered c ≡ 0) → altered b + kIn s ≤ heldIn s → 0 < altered b
       → Refuses (nIn s) (length file) s (Disagree b)
@@ -104,7 +104,7 @@ module _ (file s : List ℕ) (bytes : Bytes file) (of-bytes : Bytes s) (good : l
       read-leaves s out work (refused (Disagree b))
       (read-passes s (length out) (length work) good (omega arith) room enough)
       (first-refused s 8 b (blocksIn s) 0 b zero-le (omega arith) (λ c h l. taken c (before c l)) (disagrees b few any))
-      ∙ ap (λ (L : ℕ). left (refused (Disagree b)) (written (replicate L 0) out) (zeroed (workRoom (nIn s)) work)) long
+      ∙ ap (λ (L : ℕ). leaving (refused (Disagree b)) (written (replicate L 0) out) (zeroed (workRoom (nIn s)) work)) long
 
   pub demand : ((b : ℕ) → b < blocksIn s → altered b + kIn s ≤ heldIn s) → Demand3 (kIn s) (nIn s) file s
   demand few = record { never-another = go; none-altered = reads; some-altered = λ b h before any. refuses b h before (few b h) any }

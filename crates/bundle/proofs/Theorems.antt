@@ -6,7 +6,7 @@ use Rattle.bundle.specs.Worked.{WorkedTable}
 use Rattle.bundle_front.proofs.Bundling as Bundling
 use Rattle.bundle.proofs.Coders as Coders
 use Rattle.bundle.proofs.Demands as Demands
-use Rattle.bundle.proofs.Settling.{settled}
+use Rattle.bundle.proofs.Settling.{length-settled}
 use Rattle.bundle.proofs.Worked as Worked
 
 -- Demand 2
@@ -37,10 +37,10 @@ taken-is-sent = Demands.taken-is-sent
 -- Two outcomes of a call are equal
 
 pub write-settled : WriteSettled
-write-settled k n file out work = settled _
+write-settled k n file out work = length-settled _
 
 pub read-settled : ReadSettled
-read-settled s out work = settled _
+read-settled s out work = length-settled _
 
 -- The worked numbers, and the useless coders
 

@@ -9,7 +9,7 @@ use lib.Dec.{lit<, lit≤}
 use lib.ListN.{length}
 use Rattle.field.specs.Field.{power}
 use Rattle.answers.specs.First.{first}
-use Rattle.answers.specs.Leaves.{left, unlessRefused}
+use Rattle.answers.specs.Leaves.{leaving, unlessRefused}
 use Rattle.field.specs.Points.{rootOf, pointOf}
 use Rattle.answers.specs.Refusals.{Answer, result, refused, after}
 use Rattle.field.specs.Roots.{roots, root}
@@ -45,7 +45,7 @@ use Rattle.bundle_read.specs.Reading.{symbolHeld, heldAt, decodedAt, some-meets
 use Rattle.bundle.specs.Theorems.{Writes, Reads, Refuses}
 use Rattle.bundle.specs.Worked.{file11, bundle11, bundle12, WorkedTable}
 use Rattle.bundle.proofs.Demands.{writes-bundle, write-read}
-use Rattle.bundle_read.proofs.HeldBlocks.{ready}
+use Rattle.bundle_read.proofs.HeldBlocks.{held-decodable}
 use Rattle.bundle_file.proofs.Padding.{message-is}
 use Rattle.bundle.proofs.Passing.{read-passes}
 use Rattle.bundle.proofs.Shadowing.{all-bytes}
@@ -91,7 +91,7 @@ shorter-block : blockAnswer (bundle12 3) 0 ≡ refused (Tail 0)
 unfolding blockAnswer judged decodedAt badWord badTail some-meets first inBytes two kIn nIn lengthIn heldIn twoAt fourAt bundle12 bundle11
 shorter-block =
     ap (judged 2 3 0)
-    (decodes-fitting 2 4 (heldAt (bundle12 3) 0) (ready (bundle12 3) 0 shorter-bytes shorter-layout (lit≤ tt)) (1 ∷ 2 ∷ []) .1
+    (decodes-fitting 2 4 (heldAt (bundle12 3) 0) (held-decodable (bundle12 3) 0 shorter-bytes shorter-layout (lit≤ tt)) (1 ∷ 2 ∷ []) .1
     (none-fits 2 4 (1 ∷ 2 ∷ []) (heldAt (bundle12 3) 0) one-two none-altered))
 
 shorter : Refuses 4 3 (bundle12 3) (Tail 0)
@@ -105,7 +105,7 @@ longer-blocks : blocksIn (bundle12 5) ≡ 2
 unfolding blocksIn blocksOf kIn lengthIn twoAt fourAt bundle12 bundle11
 longer-blocks = refl
 
-longer : (out work : List ℕ) → readLeaves (bundle12 5) out work ≡ left (refused Form) out work
+longer : (out work : List ℕ) → readLeaves (bundle12 5) out work ≡ leaving (refused Form) out work
 unfolding readChecks
 longer out work =
     ap

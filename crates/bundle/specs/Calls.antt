@@ -2,7 +2,7 @@
 use mathlib.Core.List.{List, [], _∷_}
 use Prim.Native.Nat.{ℕ}
 use lib.ListN.{length, replicate}
-use Rattle.answers.specs.Leaves.{Leaves, left, unlessRefused, written, zeroed}
+use Rattle.answers.specs.Leaves.{Leaves, leaving, unlessRefused, written, zeroed}
 use Rattle.answers.specs.Refusals.{Answer, result, refusal}
 use Rattle.bundle_layout.specs.Fields.{nIn, lengthIn, blocksIn}
 use Rattle.bundle.specs.Checks.{writeChecks, readChecks}
@@ -13,14 +13,14 @@ use Rattle.bundle_layout.specs.Rooms.{workRoom}
 abbrev pub writeLeaves : ℕ → ℕ → List ℕ → List ℕ → List ℕ → Leaves
 writeLeaves k n file out work =
     unlessRefused (writeChecks k n (length file) (length out) (length work)) out work
-    (left (result (length (fileBundle k n file) ∷ [])) (written (fileBundle k n file) out) (zeroed (workRoom n) work))
+    (leaving (result (length (fileBundle k n file) ∷ [])) (written (fileBundle k n file) out) (zeroed (workRoom n) work))
 
 -- the file where every block is taken; "On refusals 8 to 10 the stated working space is zero; .. a bundle reader's first L output bytes are
 -- zero and later ones untouched."
 abbrev pub blocksLeave : Answer → List ℕ → List ℕ → List ℕ → Leaves
 blocksLeave (refusal number place) s out work =
-    left (refusal number place) (written (replicate (lengthIn s) 0) out) (zeroed (workRoom (nIn s)) work)
-blocksLeave (result vs) s out work = left (result vs) (written (fileIn s) out) (zeroed (workRoom (nIn s)) work)
+    leaving (refusal number place) (written (replicate (lengthIn s) 0) out) (zeroed (workRoom (nIn s)) work)
+blocksLeave (result vs) s out work = leaving (result vs) (written (fileIn s) out) (zeroed (workRoom (nIn s)) work)
 
 abbrev pub readLeaves : List ℕ → List ℕ → List ℕ → Leaves
 readLeaves s out work =

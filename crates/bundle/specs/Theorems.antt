@@ -5,7 +5,7 @@ use mathlib.Core.List.{List, [], _∷_, map}
 use mathlib.Core.Logic.{_⊎_, _↔_}
 use Prim.Native.Nat.{ℕ, _+_, _<_, _≤_}
 use lib.ListN.{length, replicate}
-use Rattle.answers.specs.Leaves.{left, written, zeroed}
+use Rattle.answers.specs.Leaves.{leaving, written, zeroed}
 use Rattle.answers.specs.Refusals.{result, refused}
 use Rattle.answers.specs.declared.refusal.Refusal.{Refusal}
 use Rattle.answers.specs.declared.refusal.Refusal.the-variants.{Disagree}
@@ -17,7 +17,7 @@ use Rattle.bundle_storage.specs.Bytes.{Bytes}
 use Rattle.bundle_layout.specs.Fields.{kIn, nIn, lengthIn, heldIn, blocksIn}
 use Rattle.bundle_layout.specs.Held.{IsBundle}
 use Rattle.bundle_layout.specs.Layout.{layoutChecks}
-use Rattle.bundle.specs.Answers.{Settled}
+use Rattle.bundle.specs.Answers.{LengthSettled}
 use Rattle.bundle.specs.Calls.{writeLeaves, readLeaves}
 use Rattle.bundle.specs.Checks.{readChecks}
 use Rattle.bundle_file.specs.File.{Rising, messageAt, shadowOf, bundleAt, fileBundle}
@@ -30,19 +30,19 @@ use Rattle.bundle_layout.specs.Rooms.{writeRoom, workRoom}
 abbrev pub Writes : ℕ → ℕ → List ℕ → List ℕ → Type 0
 Writes k n file bundle =
     (out work : List ℕ) → writeRoom n (blocksOf k (length file)) ≤ length out → workRoom n ≤ length work
-    → writeLeaves k n file out work ≡ left (result (length bundle ∷ [])) (written bundle out) (zeroed (workRoom n) work)
+    → writeLeaves k n file out work ≡ leaving (result (length bundle ∷ [])) (written bundle out) (zeroed (workRoom n) work)
 
 -- the reader leaves this file
 abbrev pub Reads : ℕ → List ℕ → List ℕ → Type 0
 Reads n s file =
     (out work : List ℕ) → length file ≤ length out → workRoom n ≤ length work
-    → readLeaves s out work ≡ left (result (length file ∷ [])) (written file out) (zeroed (workRoom n) work)
+    → readLeaves s out work ≡ leaving (result (length file ∷ [])) (written file out) (zeroed (workRoom n) work)
 
 -- the reader refuses a block, L being the file's length
 abbrev pub Refuses : ℕ → ℕ → List ℕ → Refusal → Type 0
 Refuses n L s x =
     (out work : List ℕ) → L ≤ length out → workRoom n ≤ length work
-    → readLeaves s out work ≡ left (refused x) (written (replicate L 0) out) (zeroed (workRoom n) work)
+    → readLeaves s out work ≡ leaving (refused x) (written (replicate L 0) out) (zeroed (workRoom n) work)
 
 -- Demand 2
 
@@ -106,12 +106,12 @@ abbrev pub TakenIsSent : Type 0
 TakenIsSent =
     (k n : ℕ) (file s out work vs : List ℕ) → Bytes file → Bytes s → (layoutChecks s ≡ result [] → FewAltered k n file s)
     → readLeaves s out work .answer ≡ result vs
-    → readLeaves s out work ≡ left (result (length file ∷ [])) (written file out) (zeroed (workRoom n) work)
+    → readLeaves s out work ≡ leaving (result (length file ∷ [])) (written file out) (zeroed (workRoom n) work)
 
 -- Two outcomes of a call are equal: the answer, every byte of the output and every cell of the working space
 
 abbrev pub WriteSettled : Type 0
-WriteSettled = (k n : ℕ) (file out work : List ℕ) → Settled (writeLeaves k n file out work)
+WriteSettled = (k n : ℕ) (file out work : List ℕ) → LengthSettled (writeLeaves k n file out work)
 
 abbrev pub ReadSettled : Type 0
-ReadSettled = (s out work : List ℕ) → Settled (readLeaves s out work)
+ReadSettled = (s out work : List ℕ) → LengthSettled (readLeaves s out work)

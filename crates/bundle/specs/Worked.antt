@@ -3,7 +3,7 @@ use mathlib.Core.Path.{_≡_}
 use mathlib.Core.List.{List, [], _∷_, _++_}
 use Prim.Native.Nat.{ℕ}
 use lib.ListN.{set}
-use Rattle.answers.specs.Leaves.{left}
+use Rattle.answers.specs.Leaves.{leaving}
 use Rattle.answers.specs.Refusals.{refused}
 use Rattle.answers.specs.declared.refusal.Refusal.the-variants.{Tail, Form}
 use Rattle.transform_halving.specs.Transform.{transformOf, inverseOf}
@@ -43,4 +43,4 @@ pub record WorkedTable : Type 0 where
   pub p11 : Writes 2 4 file11 bundle11 × Reads 4 bundle11 file11
   -- "the same with L = 3: TAIL, place 0. With L = 5, B is 2: FORM."
   pub p12 : Refuses 4 3 (bundle12 3) (Tail 0)
-      × ((blocksIn (bundle12 5) ≡ 2) × ((out work : List ℕ) → readLeaves (bundle12 5) out work ≡ left (refused Form) out work))
+      × ((blocksIn (bundle12 5) ≡ 2) × ((out work : List ℕ) → readLeaves (bundle12 5) out work ≡ leaving (refused Form) out work))

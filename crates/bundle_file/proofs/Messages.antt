@@ -12,11 +12,11 @@ use Rattle.limits.specs.Shape.{badShape}
 use Rattle.field.specs.Size.{sizeOf}
 use Rattle.poly.specs.Tab.{tab}
 use Rattle.poly.proofs.Tab.{tab-ext}
-use Rattle.transform_halving.specs.Ready.{Ready}
+use Rattle.transform_halving.specs.Transformable.{Transformable}
 use Rattle.transform_halving.specs.Transform.{transformOf}
 use Rattle.code.specs.Codable.{Codable}
 use Rattle.code.specs.Code.{codeWord}
-use Rattle.code.proofs.Spreading.{laid, full, full-ready, kept-front}
+use Rattle.code.proofs.Spreading.{laid, full, full-transformable, kept-front}
 use Rattle.bundle_storage.specs.Bytes.{Bytes, twoAt}
 use Rattle.bundle_file.specs.File.{messageAt}
 use Rattle.bundle_file.proofs.Padding.{padded-at, message-length, message-is}
@@ -57,8 +57,8 @@ module _ (k : ℕ) (file : List ℕ) (b : ℕ) where
     unfolding full
     coefficients = is ∙ ap₂ (λ (N m : ℕ). messageAt k file b ++ replicate (N - m) 0) long (sym (message-length k file b))
 
-    pub block-ready : Ready cells
-    block-ready = subst Ready (sym coefficients) (full-ready n (messageAt k file b) codable)
+    pub block-transformable : Transformable cells
+    block-transformable = subst Transformable (sym coefficients) (full-transformable n (messageAt k file b) codable)
 
     pub block-word : (after : List ℕ) → after ≡ transformOf cells → take n after ≡ codeWord n (messageAt k file b)
     block-word after turned =

@@ -20,9 +20,9 @@ use Rattle.poly.specs.Value.{value}
 use Rattle.poly.proofs.Tab.{tab-getD}
 use Rattle.poly.proofs.Window.{window, window-length, window-before, window-at, window-past}
 use Rattle.decode_between.specs.Between.{between}
-use Rattle.decode_between.proofs.Room.{power-at}
-use Rattle.decode_divide.specs.Quotients.{Inverses}
-use Rattle.decode_missing.specs.Missing.{missing}
+use Rattle.decode_between.proofs.Foldable.{power-at}
+use Rattle.decode_divide.specs.Quotients.{InversesBetween}
+use Rattle.decode_missing.specs.Missing.{missingPoints}
 use Rattle.decode_missing.specs.Weights.{weights}
 use Rattle.decode_prepare.specs.Prepared.{Prepared}
 use Rattle.bundle_storage.specs.Storage.{wordsAt}
@@ -184,66 +184,66 @@ module _ (s : List ℕ) (good : layoutChecks s ≡ result []) (laid marks : List
           ∙ window-at (2 * sizeOf (nIn s)) (3 * sizeOf (nIn s) - 2 * sizeOf (nIn s)) i (λ j. getD marks j 0) laid (omega (arith, third, less)) (omega (arith, long))
           ∙ ap (λ (l : List ℕ). getD l i 0) is-marks
 
-  points : missing (sizeOf (nIn s)) (take (sizeOf (nIn s)) (drop (2 * sizeOf (nIn s)) (take (4 * sizeOf (nIn s) - 0) marked-cells))) ≡ missingIn s
+  points : missingPoints (sizeOf (nIn s)) (take (sizeOf (nIn s)) (drop (2 * sizeOf (nIn s)) (take (4 * sizeOf (nIn s) - 0) marked-cells))) ≡ missingIn s
   unfolding missingIn
-  points = ap (missing (sizeOf (nIn s))) marks-there
+  points = ap (missingPoints (sizeOf (nIn s))) marks-there
 
-  -- ready is what the preparation leaves of its part
-  module _ (shadows : Shadows s (heldIn s) laid) (ready : List ℕ) (same : length ready ≡ length (take (4 * sizeOf (nIn s) - 0) marked-cells)) where
-    ready-cells : List ℕ
-    ready-cells = withFront (sizeOf (nIn s)) marked-cells ready
+  -- made is what the preparation leaves of its part
+  module _ (shadows : Shadows s (heldIn s) laid) (made : List ℕ) (same : length made ≡ length (take (4 * sizeOf (nIn s) - 0) marked-cells)) where
+    made-cells : List ℕ
+    made-cells = withFront (sizeOf (nIn s)) marked-cells made
 
     half : 4 * sizeOf (nIn s) - 0 ≡ 4 * sizeOf (nIn s)
     half = omega arith
 
-    ready-window : ready-cells ≡ window 0 (4 * sizeOf (nIn s) - 0) (λ j. getD ready j 0) marked-cells
-    unfolding ready-cells
-    ready-window = front-window (4 * sizeOf (nIn s) - 0) marked-cells ready (same ∙ length-take-le (4 * sizeOf (nIn s) - 0) marked-cells (omega (arith, marked-long)))
+    made-window : made-cells ≡ window 0 (4 * sizeOf (nIn s) - 0) (λ j. getD made j 0) marked-cells
+    unfolding made-cells
+    made-window = front-window (4 * sizeOf (nIn s) - 0) marked-cells made (same ∙ length-take-le (4 * sizeOf (nIn s) - 0) marked-cells (omega (arith, marked-long)))
 
-    ready-long : length ready-cells ≡ 8 * sizeOf (nIn s)
-    ready-long = ap length ready-window ∙ window-length 0 _ (λ j. getD ready j 0) marked-cells (omega (arith, half, marked-long)) ∙ marked-long
+    made-long : length made-cells ≡ 8 * sizeOf (nIn s)
+    made-long = ap length made-window ∙ window-length 0 _ (λ j. getD made j 0) marked-cells (omega (arith, half, marked-long)) ∙ marked-long
 
     -- in front, and behind
-    ready-front : (i : ℕ) → i < 4 * sizeOf (nIn s) → getD ready-cells i 0 ≡ getD ready i 0
-    ready-front i l =
-        ap₂ (λ (l : List ℕ) (j : ℕ). getD l j 0) ready-window (sym (zero-add i))
-        ∙ window-at 0 (4 * sizeOf (nIn s) - 0) i (λ j. getD ready j 0) marked-cells (omega (arith, half, l)) (omega arith)
+    made-front : (i : ℕ) → i < 4 * sizeOf (nIn s) → getD made-cells i 0 ≡ getD made i 0
+    made-front i l =
+        ap₂ (λ (l : List ℕ) (j : ℕ). getD l j 0) made-window (sym (zero-add i))
+        ∙ window-at 0 (4 * sizeOf (nIn s) - 0) i (λ j. getD made j 0) marked-cells (omega (arith, half, l)) (omega arith)
 
-    ready-back : (i : ℕ) → 4 * sizeOf (nIn s) ≤ i → getD ready-cells i 0 ≡ getD laid i 0
-    ready-back i l =
-        ap (λ (l : List ℕ). getD l i 0) ready-window
-        ∙ window-past 0 (4 * sizeOf (nIn s) - 0) i (λ j. getD ready j 0) marked-cells (omega (arith, half, l)) (omega arith)
+    made-back : (i : ℕ) → 4 * sizeOf (nIn s) ≤ i → getD made-cells i 0 ≡ getD laid i 0
+    made-back i l =
+        ap (λ (l : List ℕ). getD l i 0) made-window
+        ∙ window-past 0 (4 * sizeOf (nIn s) - 0) i (λ j. getD made j 0) marked-cells (omega (arith, half, l)) (omega arith)
         ∙ ap (λ (l : List ℕ). getD l i 0) marked-window
         ∙ window-past (2 * sizeOf (nIn s)) (3 * sizeOf (nIn s) - 2 * sizeOf (nIn s)) i (λ j. getD marks j 0) laid (omega (arith, third, l)) (omega (arith, long))
 
-    module _ (count : ℕ) (prepared : Prepared (kIn s) (nIn s) (take (sizeOf (nIn s)) (drop (2 * sizeOf (nIn s)) (take (4 * sizeOf (nIn s) - 0) marked-cells))) count ready)
-        (now : List ℕ) (is : now ≡ window (4 * sizeOf (nIn s)) (sizeOf (nIn s)) (λ j. getD ready-cells j 0) ready-cells) where
+    module _ (count : ℕ) (prepared : Prepared (kIn s) (nIn s) (take (sizeOf (nIn s)) (drop (2 * sizeOf (nIn s)) (take (4 * sizeOf (nIn s) - 0) marked-cells))) count made)
+        (now : List ℕ) (is : now ≡ window (4 * sizeOf (nIn s)) (sizeOf (nIn s)) (λ j. getD made-cells j 0) made-cells) where
       count-is : count ≡ length (missingIn s)
       count-is = prepared .counted ∙ ap length points
 
-      front : (i : ℕ) → i < 4 * sizeOf (nIn s) → getD now i 0 ≡ getD ready i 0
+      front : (i : ℕ) → i < 4 * sizeOf (nIn s) → getD now i 0 ≡ getD made i 0
       front i l =
-          ap (λ (l : List ℕ). getD l i 0) is ∙ window-before (4 * sizeOf (nIn s)) (sizeOf (nIn s)) i _ ready-cells l (omega (arith, ready-long)) ∙ ready-front i l
+          ap (λ (l : List ℕ). getD l i 0) is ∙ window-before (4 * sizeOf (nIn s)) (sizeOf (nIn s)) i _ made-cells l (omega (arith, made-long)) ∙ made-front i l
 
       back : (i : ℕ) → 5 * sizeOf (nIn s) ≤ i → getD now i 0 ≡ getD laid i 0
       back i l =
           ap (λ (l : List ℕ). getD l i 0) is
-          ∙ window-past (4 * sizeOf (nIn s)) (sizeOf (nIn s)) i _ ready-cells (omega (arith, l)) (omega (arith, ready-long)) ∙ ready-back i (omega (arith, l))
+          ∙ window-past (4 * sizeOf (nIn s)) (sizeOf (nIn s)) i _ made-cells (omega (arith, l)) (omega (arith, made-long)) ∙ made-back i (omega (arith, l))
 
       weight : (j : ℕ) → j < sizeOf (nIn s) → getD now (4 * sizeOf (nIn s) + j) 0 ≡ getD (weights (sizeOf (nIn s)) (missingIn s)) j 0
       weight j l =
           ap (λ (l : List ℕ). getD l (4 * sizeOf (nIn s) + j) 0) is
-          ∙ window-at (4 * sizeOf (nIn s)) (sizeOf (nIn s)) j _ ready-cells l (omega (arith, ready-long))
-          ∙ ready-front j (omega (arith, l))
-          ∙ sym (getD-take (sizeOf (nIn s)) ready j 0 l)
+          ∙ window-at (4 * sizeOf (nIn s)) (sizeOf (nIn s)) j _ made-cells l (omega (arith, made-long))
+          ∙ made-front j (omega (arith, l))
+          ∙ sym (getD-take (sizeOf (nIn s)) made j 0 l)
           ∙ ap (λ (l : List ℕ). getD l j 0) (prepared .weighs ∙ ap (weights (sizeOf (nIn s))) points)
 
-      inverse : 0 < length (missingIn s) → Inverses (sizeOf (nIn s)) (sizeOf (kIn s)) (missingIn s) (drop (2 * sizeOf (nIn s)) now)
+      inverse : 0 < length (missingIn s) → InversesBetween (sizeOf (nIn s)) (sizeOf (kIn s)) (missingIn s) (drop (2 * sizeOf (nIn s)) now)
       inverse lost =
           record {
             at = λ i l. subst (λ (x : ℕ). sizeOf (nIn s) * sizeOf (kIn s) * value (vanishing (missingIn s)) (between (sizeOf (nIn s)) (sizeOf (kIn s)) i) * x ≈ 1)
-                (getD-drop (2 * sizeOf (nIn s)) ready i 0 ∙ sym (front (2 * sizeOf (nIn s) + i) (omega (arith, l, size-order s good))) ∙ sym (getD-drop (2 * sizeOf (nIn s)) now i 0))
-                (subst (λ (zs : List ℕ). Inverses (sizeOf (nIn s)) (sizeOf (kIn s)) zs (drop (2 * sizeOf (nIn s)) ready)) points (prepared .inverses (omega (arith, lost, count-is))) .at i l);
+                (getD-drop (2 * sizeOf (nIn s)) made i 0 ∙ sym (front (2 * sizeOf (nIn s) + i) (omega (arith, l, size-order s good))) ∙ sym (getD-drop (2 * sizeOf (nIn s)) now i 0))
+                (subst (λ (zs : List ℕ). InversesBetween (sizeOf (nIn s)) (sizeOf (kIn s)) zs (drop (2 * sizeOf (nIn s)) made)) points (prepared .inverses (omega (arith, lost, count-is))) .at i l);
           }
 
       laid-first : (count ≡ length (missingIn s)) × Laid s 0 now
@@ -252,9 +252,9 @@ module _ (s : List ℕ) (good : layoutChecks s ≡ result []) (laid marks : List
         count-is,
         record {
           fixed = record {
-            long = ap length is ∙ window-length (4 * sizeOf (nIn s)) (sizeOf (nIn s)) _ ready-cells (omega (arith, ready-long)) ∙ ready-long;
+            long = ap length is ∙ window-length (4 * sizeOf (nIn s)) (sizeOf (nIn s)) _ made-cells (omega (arith, made-long)) ∙ made-long;
             inverses = inverse;
-            powers = λ j l. front (3 * sizeOf (nIn s) + j) (omega (arith, l)) ∙ power-at (sizeOf (nIn s)) ready (prepared .table) j l;
+            powers = λ j l. front (3 * sizeOf (nIn s) + j) (omega (arith, l)) ∙ power-at (sizeOf (nIn s)) made (prepared .table) j l;
             weighs = weight;
             words = λ t h. back (5 * sizeOf (nIn s) + t) (omega arith) ∙ shadows .words t h;
             positions = λ t h. back (7 * sizeOf (nIn s) + t) (omega arith) ∙ shadows .positions t h;
@@ -270,10 +270,10 @@ module _ (s : List ℕ) (good : layoutChecks s ≡ result []) where
   marks-room size cells is long = length-take-le (3 * size - 2 * size) (drop (2 * size) cells) (omega (arith, long, length-drop (2 * size) cells)) ∙ omega (arith, is)
 
   module _ (k n size : ℕ) (first : k ≡ kIn s) (second : n ≡ nIn s) (third : size ≡ sizeOf n) where
-    pub prepare-ready : (cells marks : List ℕ) → length cells ≡ 8 * size → marks ≡ marksIn s (heldIn s) → kIn s ≤ heldIn s
+    pub prepare-asked : (cells marks : List ℕ) → length cells ≡ 8 * size → marks ≡ marksIn s (heldIn s) → kIn s ≤ heldIn s
         → (badShape k n ≡ false) × (length (take (4 * size - 0) (withMarks size cells marks)) ≡ 4 * sizeOf n)
-        × (length (missing (sizeOf n) (take (sizeOf n) (drop (2 * sizeOf n) (take (4 * size - 0) (withMarks size cells marks))))) < sizeOf n)
-    prepare-ready =
+        × (length (missingPoints (sizeOf n) (take (sizeOf n) (drop (2 * sizeOf n) (take (4 * size - 0) (withMarks size cells marks))))) < sizeOf n)
+    prepare-asked =
         rw (third, first, second)
         (λ cells marks long is enough.
         (shape-passed s good, front-room cells marks long is, fewer cells marks long is enough))
@@ -285,7 +285,7 @@ module _ (s : List ℕ) (good : layoutChecks s ≡ result []) where
             length-take-le (4 * sizeOf (nIn s) - 0) _ (omega (arith, marked-long s good cells marks long is)) ∙ omega arith
 
         fewer : (cells marks : List ℕ) → length cells ≡ 8 * sizeOf (nIn s) → marks ≡ marksIn s (heldIn s) → kIn s ≤ heldIn s
-            → length (missing (sizeOf (nIn s)) (take (sizeOf (nIn s)) (drop (2 * sizeOf (nIn s)) (take (4 * sizeOf (nIn s) - 0) (withMarks (sizeOf (nIn s)) cells marks))))) < sizeOf (nIn s)
+            → length (missingPoints (sizeOf (nIn s)) (take (sizeOf (nIn s)) (drop (2 * sizeOf (nIn s)) (take (4 * sizeOf (nIn s) - 0) (withMarks (sizeOf (nIn s)) cells marks))))) < sizeOf (nIn s)
         fewer cells marks long is enough =
             unfold marked-cells in
             subst (λ (zs : List ℕ). length zs < sizeOf (nIn s)) (sym (points s good cells marks long is)) (missing-fewer s good (omega (arith, enough, k-some s good)))
@@ -294,18 +294,18 @@ module _ (s : List ℕ) (good : layoutChecks s ≡ result []) where
     unfolding marked-cells
     marked-room = rw (third, second) (λ cells marks long is. marked-long s good cells marks long is)
 
-    pub ready-room : (cells marks ready : List ℕ) → length cells ≡ 8 * size → marks ≡ marksIn s (heldIn s) → Shadows s (heldIn s) cells
-        → length ready ≡ length (take (4 * size - 0) (withMarks size cells marks)) → length (withFront size (withMarks size cells marks) ready) ≡ 8 * size
-    unfolding marked-cells ready-cells
-    ready-room = rw (third, second) (λ cells marks ready long is shadows same. ready-long s good cells marks long is shadows ready same)
+    pub made-room : (cells marks made : List ℕ) → length cells ≡ 8 * size → marks ≡ marksIn s (heldIn s) → Shadows s (heldIn s) cells
+        → length made ≡ length (take (4 * size - 0) (withMarks size cells marks)) → length (withFront size (withMarks size cells marks) made) ≡ 8 * size
+    unfolding marked-cells made-cells
+    made-room = rw (third, second) (λ cells marks made long is shadows same. made-long s good cells marks long is shadows made same)
 
-    pub laid-start : (cells marks ready : List ℕ) → length cells ≡ 8 * size → marks ≡ marksIn s (heldIn s) → Shadows s (heldIn s) cells
-        → length ready ≡ length (take (4 * size - 0) (withMarks size cells marks)) → (count : ℕ)
-        → Prepared k n (take (sizeOf n) (drop (2 * sizeOf n) (take (4 * size - 0) (withMarks size cells marks)))) count ready → (now : List ℕ)
-        → now ≡ take (4 * size) (withFront size (withMarks size cells marks) ready)
-        ++ (tab size (λ j. getD (withFront size (withMarks size cells marks) ready) j 0) ++ drop (4 * size + size) (withFront size (withMarks size cells marks) ready))
+    pub laid-start : (cells marks made : List ℕ) → length cells ≡ 8 * size → marks ≡ marksIn s (heldIn s) → Shadows s (heldIn s) cells
+        → length made ≡ length (take (4 * size - 0) (withMarks size cells marks)) → (count : ℕ)
+        → Prepared k n (take (sizeOf n) (drop (2 * sizeOf n) (take (4 * size - 0) (withMarks size cells marks)))) count made → (now : List ℕ)
+        → now ≡ take (4 * size) (withFront size (withMarks size cells marks) made)
+        ++ (tab size (λ j. getD (withFront size (withMarks size cells marks) made) j 0) ++ drop (4 * size + size) (withFront size (withMarks size cells marks) made))
         → (count ≡ length (missingIn s)) × Laid s 0 now
-    unfolding marked-cells ready-cells window
+    unfolding marked-cells made-cells window
     laid-start =
         rw (third, first, second)
-        (λ cells marks ready long is shadows same count prepared now kept. laid-first s good cells marks long is shadows ready same count prepared now kept)
+        (λ cells marks made long is shadows same count prepared now kept. laid-first s good cells marks long is shadows made same count prepared now kept)

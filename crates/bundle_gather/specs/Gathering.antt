@@ -7,8 +7,8 @@ use lib.ListN.{length, getD, drop, replicate, set}
 use Rattle.field.specs.Field.{product, power}
 use Rattle.field.specs.Size.{sizeOf}
 use Rattle.decode_between.specs.Between.{psi}
-use Rattle.decode_divide.specs.Quotients.{Inverses}
-use Rattle.decode_missing.specs.Missing.{missing}
+use Rattle.decode_divide.specs.Quotients.{InversesBetween}
+use Rattle.decode_missing.specs.Missing.{missingPoints}
 use Rattle.decode_missing.specs.Weights.{weights}
 use Rattle.bundle_storage.specs.Storage.{symbolIn, wordsAt, cursorAt}
 use Rattle.bundle_layout.specs.Fields.{kIn, nIn, heldIn, positionIn, countIn, offsetIn}
@@ -21,7 +21,7 @@ marksIn s (suc t) = set (marksIn s t) (positionIn s t) 1
 
 -- the points of the positions that no shadow has
 unfoldable pub missingIn : List ℕ → List ℕ
-missingIn s = missing (sizeOf (nIn s)) (marksIn s (heldIn s))
+missingIn s = missingPoints (sizeOf (nIn s)) (marksIn s (heldIn s))
 
 -- where the words of shadow t begin
 unfoldable pub wordsHeld : List ℕ → ℕ → ℕ
@@ -45,7 +45,7 @@ pub record Shadows (s : List ℕ) (m : ℕ) (cells : List ℕ) : Type 0 where
 -- what stays
 pub record Fixed (s cells : List ℕ) : Type 0 where
   pub long : length cells ≡ workRoom (nIn s)
-  pub inverses : 0 < length (missingIn s) → Inverses (sizeOf (nIn s)) (sizeOf (kIn s)) (missingIn s) (drop (2 * sizeOf (nIn s)) cells)
+  pub inverses : 0 < length (missingIn s) → InversesBetween (sizeOf (nIn s)) (sizeOf (kIn s)) (missingIn s) (drop (2 * sizeOf (nIn s)) cells)
   pub powers : (j : ℕ) → j < sizeOf (nIn s) → getD cells (3 * sizeOf (nIn s) + j) 0 ≡ power (psi (sizeOf (nIn s))) j
   pub weighs : (j : ℕ) → j < sizeOf (nIn s) → getD cells (4 * sizeOf (nIn s) + j) 0 ≡ getD (weights (sizeOf (nIn s)) (missingIn s)) j 0
   pub words : (t : ℕ) → t < heldIn s → getD cells (5 * sizeOf (nIn s) + t) 0 ≡ wordsHeld s t

@@ -1,4 +1,4 @@
--- What a bundle of good layout holds for a block: it is ready to be decoded, and gathered as decoding takes it.
+-- What a bundle of good layout holds for a block: it can be decoded, and is gathered as decoding takes it.
 -- Assumes nothing.
 use mathlib.Core.Path.{_≡_, sym, ap, ap₂, _∙_}
 use mathlib.Core.List.{List, []}
@@ -11,9 +11,9 @@ use Rattle.field.specs.Size.{sizeOf}
 use Rattle.poly.proofs.Symbols.{tab-symbols}
 use Rattle.poly.proofs.Tab.{tab-length, tab-at}
 use Rattle.code.specs.Held.{held}
-use Rattle.code.specs.Ready.{Ready}
+use Rattle.code.specs.Decodable.{Decodable}
 use Rattle.decode_missing.specs.Marks.{Marks}
-use Rattle.decode_missing.specs.Missing.{missing}
+use Rattle.decode_missing.specs.Missing.{missingPoints}
 use Rattle.decode_missing.specs.Weights.{weights, Weighted}
 use Rattle.bundle_storage.specs.Bytes.{Bytes}
 use Rattle.bundle_layout.specs.Fields.{kIn, nIn, heldIn, positionIn, countIn, offsetIn}
@@ -42,9 +42,9 @@ module _ (s : List ℕ) (b : ℕ) where
   unfolding symbolHeld
   symbol-held bytes t = symbols-read (countIn s t) b (drop (offsetIn s t) s) (bytes-drop (offsetIn s t) s bytes)
 
-  pub ready : Bytes s → layoutChecks s ≡ result [] → kIn s ≤ heldIn s → Ready (kIn s) (nIn s) (heldAt s b)
+  pub held-decodable : Bytes s → layoutChecks s ≡ result [] → kIn s ≤ heldIn s → Decodable (kIn s) (nIn s) (heldAt s b)
   unfolding heldAt held
-  ready bytes good enough =
+  held-decodable bytes good enough =
       record {
         shape = shape-passed s good;
         paired = held-count ∙ sym (tab-length (heldIn s) (symbolHeld s b));
@@ -70,6 +70,6 @@ module _ (s : List ℕ) (b : ℕ) where
         long = long;
         at = λ t l. let h : t < heldIn s = omega (arith, l, held-count) in
             ap (λ (j : ℕ). getD list j 0) (held-position t h) ∙ same (positionIn s t) (position-inside s good t h) ∙ gathered .at t h
-            ∙ ap₂ (λ (x j : ℕ). product x (getD (weights (sizeOf (nIn s)) (missing (sizeOf (nIn s)) (marksIn s (heldIn s)))) j 0)) (sym (held-value t h)) (sym (held-position t h));
+            ∙ ap₂ (λ (x j : ℕ). product x (getD (weights (sizeOf (nIn s)) (missingPoints (sizeOf (nIn s)) (marksIn s (heldIn s)))) j 0)) (sym (held-value t h)) (sym (held-position t h));
         none = λ j l free. same j l ∙ gathered .none j l free;
       }

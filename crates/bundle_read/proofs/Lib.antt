@@ -1,5 +1,5 @@
 pub mod Searching
 pub mod HeldBlocks
 pub mod MessageBytes
-pub mod Solving
+pub mod Finding
 pub mod BlockReading

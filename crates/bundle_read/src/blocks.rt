@@ -9,7 +9,7 @@ use bundle_layout::inner::blocks_in;
 use bundle_layout::inner::k_in;
 use bundle_layout::inner::length_in;
 use bundle_layout::inner::n_in;
-use decode_divide::solve;
+use decode_divide::divide;
 use field::size;
 ghost use mathlib.Core.Path.{_≡_};
 ghost use mathlib.Core.List.{[], _∷_, _++_};
@@ -60,7 +60,7 @@ fn read_block(
     let n = n_in(bundle);
     let end = 4 * size(n);
     gather(bundle, b, cells);
-    if solve(k, n, missing, &mut cells[0..end]) {
+    if divide(k, n, missing, &mut cells[0..end]) {
         return take_message(bundle, b, &cells[0..k], file);
     }
     Outcome::Refused(Refusal::Disagree(b))

@@ -50,7 +50,7 @@ pub fn bad_bytes(message: &[u32], from: usize) -> bool
 }
 
 // The first words of the message, so many, from an index of the file on.
-fn lay_words(message: &[u32], count: usize, from: usize, file: &mut [u8])
+fn lay_message(message: &[u32], count: usize, from: usize, file: &mut [u8])
     requires { ⌜ (count ≤ length (now message)) × (from + 2 * count ≤ length (now file)) × ((j : ℕ) → j < length (now message) → getD (now message) j 0 < 65536) ⌝ }
     ensures { λ _. ⌜ now (file .exit) ≡ take from (now (file .entry)) ++ (tab (2 * count) (λ j. getD (inBytes (now (message .entry))) j 0) ++ drop (from + 2 * count) (now (file .entry))) ⌝ }
 {
@@ -71,10 +71,10 @@ pub fn lay_bytes(message: &[u32], from: usize, file: &mut [u8])
     }
     let whole = (file.len() - from) / 2;
     if message.len() <= whole {
-        lay_words(message, message.len(), from, file);
+        lay_message(message, message.len(), from, file);
         return;
     }
-    lay_words(message, whole, from, file);
+    lay_message(message, whole, from, file);
     let end = from + 2 * whole;
     if file.len() <= end {
         return;

@@ -27,7 +27,7 @@ use Rattle.code.specs.Fits.{Fits}
 use Rattle.code.specs.Held.{Held}
 use Rattle.code.specs.Meeting.{polynomialOf, messageOf}
 use Rattle.code.specs.Message.{IsMessage}
-use Rattle.code.specs.Ready.{Ready}
+use Rattle.code.specs.Decodable.{Decodable}
 use Rattle.code.proofs.Meeting.{message-polynomial, message-of, polynomial-long, polynomial-symbols}
 use Rattle.code.proofs.Points.{points-length, points-at, points-apart}
 
@@ -51,9 +51,9 @@ module _ (n : ℕ) (h : Held) (s : List ℕ) where
 
 -- The candidate
 
-module _ (k n : ℕ) (h : Held) (ready : Ready k n h) where
+module _ (k n : ℕ) (h : Held) (able : Decodable k n h) where
   values-length : length (take k (h .values)) ≡ k
-  values-length = length-take-le k (h .values) (le-trans (ready .enough) (le-of-eq (ready .paired)))
+  values-length = length-take-le k (h .values) (le-trans (able .enough) (le-of-eq (able .paired)))
 
   lengths : length (pointsOf k n (h .positions)) ≡ length (take k (h .values))
   lengths = points-length k n (h .positions) ∙ sym values-length
@@ -65,7 +65,7 @@ module _ (k n : ℕ) (h : Held) (ready : Ready k n h) where
   only-candidate f long small right =
       ap messageOf
       (through-unique (pointsOf k n (h .positions)) (take k (h .values)) f lengths
-      (points-apart k n (h .positions) (shape-good k n (ready .shape) .2) (ready .enough) (ready .inside) (ready .apart))
+      (points-apart k n (h .positions) (shape-good k n (able .shape) .2) (able .enough) (able .inside) (able .apart))
       (long ∙ sym (points-length k n (h .positions)))
       (symbols-every f small)
       (fits-of f _ _ lengths (λ j l. at j (lt-of-lt-of-le l (le-of-eq (points-length k n (h .positions)))))))
@@ -82,7 +82,7 @@ module _ (k n : ℕ) (h : Held) (ready : Ready k n h) where
   fits-candidate s fits =
       sym (message-polynomial s)
       ∙ only-candidate (polynomialOf s) (polynomial-long k s (fits .message)) (polynomial-symbols k s (fits .message))
-      (λ j l. ≈-sym (symbol-≈ n s _) ∘≈ ≈-of (fits .at j (lt-of-lt-of-le l (ready .enough))))
+      (λ j l. ≈-sym (symbol-≈ n s _) ∘≈ ≈-of (fits .at j (lt-of-lt-of-le l (able .enough))))
 
   -- What decoding gives
 

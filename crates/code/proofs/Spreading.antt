@@ -19,9 +19,9 @@ use Rattle.poly.proofs.Every.{every-replicate}
 use Rattle.poly.proofs.Symbols.{symbols-at, append-symbols}
 use Rattle.poly.proofs.Tab.{tab-length, tab-at}
 use Rattle.poly.proofs.Values.{value-append, value-zeros}
-use Rattle.transform_halving.specs.Ready.{Ready}
+use Rattle.transform_halving.specs.Transformable.{Transformable}
 use Rattle.transform_halving.specs.Transform.{transformOf}
-use Rattle.transform_halving.proofs.Ready.{ready-of}
+use Rattle.transform_halving.proofs.Transformable.{transformable-of}
 use Rattle.transform_halving.proofs.Theorems.{transform-is-value, transform-symbols}
 use Rattle.code.specs.Code.{symbolOf, codeWord}
 use Rattle.code.specs.Codable.{Codable}
@@ -72,10 +72,10 @@ module _ (n : ℕ) (message : List ℕ) (good : Codable n message) where
       length-append message (replicate (sizeOf n - length message) 0)
       ∙ omega (arith, k-fits, length-replicate {A = ℕ} (sizeOf n - length message) 0)
 
-  pub full-ready : Ready full
+  pub full-transformable : Transformable full
   unfolding full
-  full-ready =
-      ready-of (levelOf n) (level-le n) full (full-length ∙ size-power n)
+  full-transformable =
+      transformable-of (levelOf n) (level-le n) full (full-length ∙ size-power n)
       (append-symbols message _ (good .symbols) (symbols-at _ (every-replicate (_< 65537) (sizeOf n - length message) 0 (lit< tt))))
 
   full-value : (x : ℕ) → value full x ≡ value message x
@@ -132,8 +132,8 @@ module _ (n S : ℕ) (message cells : List ℕ) (good : Codable n message) (size
     part-full : take (S - 0) (e ++ drop (S - 0) cells) ≡ full n message good
     part-full = take-at e _ (S - 0) e-length ∙ e-full
 
-    pub part-ready : Ready (take (S - 0) (e ++ drop (S - 0) cells))
-    part-ready = subst Ready (sym part-full) (full-ready n message good)
+    pub part-transformable : Transformable (take (S - 0) (e ++ drop (S - 0) cells))
+    part-transformable = subst Transformable (sym part-full) (full-transformable n message good)
 
     module _ (f : List ℕ) (is : f ≡ transformOf (take (S - 0) (e ++ drop (S - 0) cells))) where
       f-is : f ≡ transformOf (full n message good)

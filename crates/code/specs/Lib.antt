@@ -9,5 +9,5 @@ pub mod Repeats
 pub mod Rooms
 pub mod Decoded
 pub mod Codable
-pub mod Ready
+pub mod Decodable
 pub mod Altered

@@ -1,6 +1,6 @@
 pub mod Grid
 pub mod Between
-pub mod Room
+pub mod Foldable
 pub mod Turning
 pub mod Folding
 pub mod Valuing

@@ -16,12 +16,12 @@ use Rattle.field.specs.Symbol.{Symbols}
 use Rattle.field.proofs.Ring.{power-times}
 use Rattle.field.proofs.Roots.{root-is}
 use Rattle.field.proofs.Sizes.{level-least, size-power}
-use Rattle.transform_halving.specs.Ready.{Ready}
+use Rattle.transform_halving.specs.Transformable.{Transformable}
 use Rattle.transform_table.specs.Part.{part}
 use Rattle.transform_table.specs.Turns.{Turns, Tabled}
 use Rattle.decode_between.specs.Between.{psi}
-use Rattle.decode_between.specs.Room.{Table}
-use Rattle.decode_between.proofs.Room.{size-N, power-at}
+use Rattle.decode_between.specs.Foldable.{PsiTable}
+use Rattle.decode_between.proofs.Foldable.{size-N, power-at}
 
 -- each root of the table is a power of each later one
 root-power : (i d : ℕ) → i + d < 17 → power (root (i + d)) (2 ^ d) ≡ root i
@@ -31,7 +31,7 @@ root-power i d h =
     ∙ ap (power 3) (sym (pow-add 2 (16 - (i + d)) d) ∙ ap (2 ^_) {x = 16 - (i + d) + d} {y = 16 - i} (omega arith))
     ∙ sym (root-is i (omega arith))
 
-module _ (N K at : ℕ) (cells : List ℕ) (table : Table N cells) (K-power : K ≡ sizeOf K) (K-fits : K ≤ N) where
+module _ (N K at : ℕ) (cells : List ℕ) (table : PsiTable N cells) (K-power : K ≡ sizeOf K) (K-fits : K ≤ N) where
   e : ℕ
   e = levelOf N
 
@@ -84,11 +84,11 @@ module _ (N K at : ℕ) (cells : List ℕ) (table : Table N cells) (K-power : K 
       }
 
   -- what a transform of K numbers asks, wherever before the powers they stand
-  pub tabled : at + K ≤ 3 * N → Ready (part at K cells) → Tabled cells at K (3 * N) (2 * N / K)
-  tabled apart ready = record { apart = apart; inside = omega (arith, half, table .long); ready = ready; turns = turns }
+  pub tabled : at + K ≤ 3 * N → Transformable (part at K cells) → Tabled cells at K (3 * N) (2 * N / K)
+  tabled apart able = record { apart = apart; inside = omega (arith, half, table .long); able = able; turns = turns }
 
 -- what a transform of the first N cells asks
-pub whole-tabled : (N : ℕ) (s : List ℕ) → Table N s → Symbols (take N s) → Tabled s 0 N (3 * N) 2
+pub whole-tabled : (N : ℕ) (s : List ℕ) → PsiTable N s → Symbols (take N s) → Tabled s 0 N (3 * N) 2
 whole-tabled N s table small =
     subst (Tabled s 0 N (3 * N)) (mul-div-cancel 2 some)
     (tabled N N 0 s table (table .N-power) (le-of-eq refl) (omega arith)

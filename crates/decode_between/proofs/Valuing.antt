@@ -12,19 +12,19 @@ use Rattle.field.specs.Size.{sizeOf}
 use Rattle.field.specs.Symbol.{Symbols}
 use Rattle.poly.proofs.Symbols.{tab-symbols}
 use Rattle.poly.proofs.Tab.{tab-length}
-use Rattle.transform_halving.specs.Ready.{Ready}
+use Rattle.transform_halving.specs.Transformable.{Transformable}
 use Rattle.transform_halving.specs.Transform.{transformOf}
 use Rattle.transform_table.specs.Part.{part, replaced}
 use Rattle.transform_table.specs.Turns.{Tabled}
 use Rattle.transform_table.proofs.Part.{replaced-length, replaced-part, replaced-behind, replaced-twice}
 use Rattle.decode_between.specs.Between.{valuesBetween, folded}
-use Rattle.decode_between.specs.Room.{Room}
+use Rattle.decode_between.specs.Foldable.{Foldable}
 use Rattle.decode_between.proofs.Between.{root-one}
 use Rattle.decode_between.proofs.Folding.{folded-transform}
-use Rattle.decode_between.proofs.Room.{size-N, size-K, levels, rows, table-kept}
+use Rattle.decode_between.proofs.Foldable.{size-N, size-K, levels, rows, table-kept}
 use Rattle.decode_between.proofs.Turning.{tabled}
 
-module _ (N K : ℕ) (d : List ℕ) (room : Room N K d) where
+module _ (N K : ℕ) (d : List ℕ) (room : Foldable N K d) where
   inside : N + K ≤ length d
   inside = omega (arith, room .table .long, room .K-fits)
 
@@ -43,9 +43,9 @@ module _ (N K : ℕ) (d : List ℕ) (room : Room N K d) where
     pub folded-same : length s ≡ length d
     folded-same = ap length folds ∙ replaced-length N K d inside (folded N K (take N d)) folded-length
 
-    folded-ready : Ready (part N K s)
-    folded-ready =
-        subst Ready (sym folded-part)
+    folded-transformable : Transformable (part N K s)
+    folded-transformable =
+        subst Transformable (sym folded-part)
         (record { size = folded-length ∙ room .K-power ∙ ap sizeOf (sym folded-length); symbols = folded-symbols })
 
     pub transform-asked : Tabled s N K (3 * N) (2 * N / K)
@@ -53,7 +53,7 @@ module _ (N K : ℕ) (d : List ℕ) (room : Room N K d) where
         tabled N K N s
         (table-kept N d (room .table) s folded-same
         (ap (drop (3 * N)) folds ∙ replaced-behind N K d inside (folded N K (take N d)) folded-length (3 * N) (omega (arith, room .K-fits))))
-        (room .K-power) (room .K-fits) (omega (arith, room .K-fits)) folded-ready
+        (room .K-power) (room .K-fits) (omega (arith, room .K-fits)) folded-transformable
 
     pub transformed : (t : List ℕ) → t ≡ replaced N K s (transformOf (part N K s)) → t ≡ replaced N K d (valuesBetween N K (take N d))
     transformed t is =

@@ -1,2 +1,2 @@
 pub mod Between
-pub mod Room
+pub mod Foldable

@@ -10,11 +10,11 @@ ghost use Rattle.field.specs.Symbol.{IsSymbol};
 ghost use Rattle.poly.specs.Sum.{total};
 ghost use Rattle.transform_table.specs.Part.{replaced};
 ghost use Rattle.decode_between.specs.Between.{psi, valuesBetween, folded};
-ghost use Rattle.decode_between.specs.Room.{Room};
+ghost use Rattle.decode_between.specs.Foldable.{Foldable};
 
 // The coefficients whose indices are i modulo K, each times its power of ψ, added up in 64 bits and reduced once.
 fn fold_one(size: usize, step: usize, i: usize, cells: &[u32]) -> u32
-    requires { ⌜ Room size step (now cells) × (i < step) ⌝ }
+    requires { ⌜ Foldable size step (now cells) × (i < step) ⌝ }
     ensures { λ r. ⌜ IsSymbol r (total (size / step) (λ b. getD (now (cells .entry)) (b * step + i) 0 * power (psi size) (b * step + i)) % 65537) ⌝ }
 {
     let rows = size / step;
@@ -31,7 +31,7 @@ fn fold_one(size: usize, step: usize, i: usize, cells: &[u32]) -> u32
 }
 
 fn fold(size: usize, step: usize, cells: &mut [u32])
-    requires { ⌜ Room size step (now cells) ⌝ }
+    requires { ⌜ Foldable size step (now cells) ⌝ }
     ensures { λ _. ⌜ now (cells .exit) ≡ replaced size step (now (cells .entry)) (folded size step (take size (now (cells .entry)))) ⌝ }
 {
     let mut i = 0;
@@ -43,7 +43,7 @@ fn fold(size: usize, step: usize, cells: &mut [u32])
 
 // The values at the K points between, by one transform of K.
 pub fn values_between(size: usize, step: usize, cells: &mut [u32])
-    requires { ⌜ Room size step (now cells) ⌝ }
+    requires { ⌜ Foldable size step (now cells) ⌝ }
     ensures { λ _. ⌜ now (cells .exit) ≡ replaced size step (now (cells .entry)) (valuesBetween size step (take size (now (cells .entry)))) ⌝ }
 {
     fold(size, step, cells);

@@ -12,7 +12,7 @@ use lib.Dec.{lit<}
 use lib.ListN.{length, getD, take, drop, replicate, length-append, length-drop}
 use lib.Seq.{length-take-le, take-at, drop-at, drop-append-add, drop-drop}
 use Rattle.field.specs.Field.{product}
-use Rattle.answers.specs.Leaves.{left, written, zeroed}
+use Rattle.answers.specs.Leaves.{leaving, written, zeroed}
 use Rattle.answers.specs.Refusals.{result, refused}
 use Rattle.limits.specs.Shape.{badShape}
 use Rattle.field.specs.Size.{sizeOf}
@@ -28,16 +28,16 @@ use Rattle.code.specs.Decoding.{decodeOf}
 use Rattle.code.specs.Held.{Held}
 use Rattle.code.specs.Meeting.{messageOf}
 use Rattle.code.specs.Positions.{Inside}
-use Rattle.code.specs.Ready.{Ready}
+use Rattle.code.specs.Decodable.{Decodable}
 use Rattle.code.specs.Repeats.{Apart}
 use Rattle.code.specs.Rooms.{decodeRoom}
 use Rattle.code.proofs.Meeting.{message-is}
-use Rattle.decode_between.specs.Room.{Room}
-use Rattle.decode_between.proofs.Room.{room-of, table-kept}
-use Rattle.decode_divide.specs.Dividing.{Missing, Solved}
-use Rattle.decode_divide.specs.Quotients.{Inverses}
+use Rattle.decode_between.specs.Foldable.{Foldable}
+use Rattle.decode_between.proofs.Foldable.{room-of, table-kept}
+use Rattle.decode_divide.specs.Dividing.{ZeroAt, Divided}
+use Rattle.decode_divide.specs.Quotients.{InversesBetween}
 use Rattle.decode_missing.specs.Marks.{Marks}
-use Rattle.decode_missing.specs.Missing.{missing}
+use Rattle.decode_missing.specs.Missing.{missingPoints}
 use Rattle.decode_missing.specs.Weights.{weights, Weighted}
 use Rattle.decode_missing.proofs.Fitting.{counted, missing-in, decodes}
 use Rattle.decode_missing.proofs.Laying.{unmarked-le}
@@ -45,15 +45,15 @@ use Rattle.decode_missing.proofs.Unmarked.{unmarked-zero}
 use Rattle.decode_prepare.specs.Prepared.{Prepared}
 use Rattle.decode_block.specs.Multiplied.{Multiplied}
 
-pub cells-enough : (k n : ℕ) (h : Held) → Ready k n h → (cells : List ℕ) → length cells ≡ decodeRoom n → k ≤ length cells
+pub cells-enough : (k n : ℕ) (h : Held) → Decodable k n h → (cells : List ℕ) → length cells ≡ decodeRoom n → k ≤ length cells
 unfolding decodeRoom
-cells-enough k n h ready cells long =
-    let good = shape-good k n (ready .shape) in
+cells-enough k n h able cells long =
+    let good = shape-good k n (able .shape) in
     omega (arith, good .1, size-enough n (le-trans (good .2) longest-le), long)
 
 -- The search for the message. N is what the call gives, mk the marks, e the values multiplied in
 
-module _ (k n : ℕ) (h : Held) (ready : Ready k n h) (d : List ℕ) (long : length d ≡ decodeRoom n) (N : ℕ) (N-is : N ≡ sizeOf n) where
+module _ (k n : ℕ) (h : Held) (able : Decodable k n h) (d : List ℕ) (long : length d ≡ decodeRoom n) (N : ℕ) (N-is : N ≡ sizeOf n) where
   long-N : length d ≡ 4 * N
   unfolding decodeRoom
   long-N = long ∙ ap (4 *_) (sym N-is)
@@ -73,8 +73,8 @@ module _ (k n : ℕ) (h : Held) (ready : Ready k n h) (d : List ℕ) (long : len
 
   inside-N : Inside N (h .positions)
   inside-N t l =
-      let good = shape-good k n (ready .shape) in
-      omega (arith, ready .inside t l, size-enough n (le-trans (good .2) longest-le), N-is)
+      let good = shape-good k n (able .shape) in
+      omega (arith, able .inside t l, size-enough n (le-trans (good .2) longest-le), N-is)
 
   pub mark-asked : Inside (length lent) (h .positions)
   mark-asked = rw lent-long inside-N
@@ -103,11 +103,11 @@ module _ (k n : ℕ) (h : Held) (ready : Ready k n h) (d : List ℕ) (long : len
         ∙ ap (take N) (drop-at (take (2 * N) d) _ (2 * N) front-long)
         ∙ take-at mk _ N mk-long
 
-    pub prepare-asked : (badShape k n ≡ false) × (length marked ≡ 4 * sizeOf n) × (length (missing (sizeOf n) (take (sizeOf n) (drop (2 * sizeOf n) marked))) < sizeOf n)
+    pub prepare-asked : (badShape k n ≡ false) × (length marked ≡ 4 * sizeOf n) × (length (missingPoints (sizeOf n) (take (sizeOf n) (drop (2 * sizeOf n) marked))) < sizeOf n)
     prepare-asked = (
-      ready .shape,
+      able .shape,
       marked-long ∙ long-N ∙ ap (4 *_) N-is,
-      rw marks-there (omega (arith, counted k n h ready mk marks-N, ready .enough, shape-good k n (ready .shape) .0)),
+      rw marks-there (omega (arith, counted k n h able mk marks-N, able .enough, shape-good k n (able .shape) .0)),
     )
 
     module _ (r : ℕ) (s : List ℕ) (same : length s ≡ length marked) (prepared : Prepared k n (take (sizeOf n) (drop (2 * sizeOf n) marked)) r s) where
@@ -121,7 +121,7 @@ module _ (k n : ℕ) (h : Held) (ready : Ready k n h) (d : List ℕ) (long : len
       abbrev pub weighing : List ℕ
       weighing = take (N - 0) s
 
-      weighing-is : weighing ≡ weights (sizeOf n) (missing (sizeOf n) mk)
+      weighing-is : weighing ≡ weights (sizeOf n) (missingPoints (sizeOf n) mk)
       weighing-is = ap (λ (x : ℕ). take x s) {x = N - 0} {y = sizeOf n} (omega (arith, N-is)) ∙ p .weighs
 
       weighing-long : length weighing ≡ N
@@ -131,7 +131,7 @@ module _ (k n : ℕ) (h : Held) (ready : Ready k n h) (d : List ℕ) (long : len
           plain = omega arith
 
       pub multiply-asked : (length (h .positions) ≡ length (h .values)) × Inside (length weighing) (h .positions) × Apart (h .positions)
-      multiply-asked = (ready .paired, rw weighing-long inside-N, ready .apart)
+      multiply-asked = (able .paired, rw weighing-long inside-N, able .apart)
 
       module _ (e : List ℕ) (m : Multiplied (length (h .positions)) (h .positions) (h .values) weighing e) where
         abbrev pub multiplied : List ℕ
@@ -161,7 +161,7 @@ module _ (k n : ℕ) (h : Held) (ready : Ready k n h) (d : List ℕ) (long : len
               none = λ j l free. m .other j (λ t k is. marks-N .held t k (ap (λ (x : ℕ). getD mk x 0) is ∙ free)) ∙ ap (λ (x : List ℕ). getD x j 0) weighing-is ∙ zero-weight j l free;
             }
           where
-            zero-weight : (j : ℕ) → j < sizeOf n → getD mk j 0 ≡ 0 → getD (weights (sizeOf n) (missing (sizeOf n) mk)) j 0 ≡ 0
+            zero-weight : (j : ℕ) → j < sizeOf n → getD mk j 0 ≡ 0 → getD (weights (sizeOf n) (missingPoints (sizeOf n) mk)) j 0 ≡ 0
             zero-weight j l free = unfold weights in tab-at (sizeOf n) _ j l ∙ unmarked-zero n mk (sizeOf n) j l free .mods
 
         e-symbols : Symbols e
@@ -176,23 +176,23 @@ module _ (k n : ℕ) (h : Held) (ready : Ready k n h) (d : List ℕ) (long : len
                 let held = marks-N .only j j-inside taken in
                 rw (sym (held .2)) (rw (weighted .at (held .0) (held .1)) (product-lt _ _))
 
-        pub solve-asked : (badShape k n ≡ false) × Room (sizeOf n) (sizeOf k) multiplied × (r ≤ sizeOf n)
-        solve-asked = (
-          ready .shape,
-          room-of k n multiplied (ready .shape)
+        pub divide-asked : (badShape k n ≡ false) × Foldable (sizeOf n) (sizeOf k) multiplied × (r ≤ sizeOf n)
+        divide-asked = (
+          able .shape,
+          room-of k n multiplied (able .shape)
               (table-kept (sizeOf n) s (p .table) multiplied (multiplied-long ∙ sym s-long) (rest-is (3 * sizeOf n) (omega (arith, N-is))))
               (subst Symbols (sym front-is) e-symbols),
           le-trans (le-of-eq (p .counted)) (unmarked-le (sizeOf n) mk (sizeOf n)),
         )
 
-        pub solved : (b : Bool) (t : List ℕ)
-            → ((zs : List ℕ) → length zs ≡ r → Missing k zs (take (sizeOf n) multiplied) → (0 < r → Inverses (sizeOf n) (sizeOf k) zs (drop (2 * sizeOf n) multiplied)) → Solved b k zs (take (sizeOf n) multiplied) (take k t))
+        pub message-found : (b : Bool) (t : List ℕ)
+            → ((zs : List ℕ) → length zs ≡ r → ZeroAt k zs (take (sizeOf n) multiplied) → (0 < r → InversesBetween (sizeOf n) (sizeOf k) zs (drop (2 * sizeOf n) multiplied)) → Divided b k zs (take (sizeOf n) multiplied) (take k t))
             → decodeOf k n h ≡ cond b (some (messageOf (take k t))) none
-        solved b t answer =
-            decodes k n h ready mk marks-N e weighted b (take k t)
+        message-found b t answer =
+            decodes k n h able mk marks-N e weighted b (take k t)
             (rw (sym front-is)
-            (answer (missing (sizeOf n) mk) (sym (p .counted)) (rw front-is (missing-in k n h ready mk marks-N e weighted))
-            (λ some. subst (Inverses (sizeOf n) (sizeOf k) (missing (sizeOf n) mk)) (sym (rest-is (2 * sizeOf n) (omega (arith, N-is)))) (p .inverses some))))
+            (answer (missingPoints (sizeOf n) mk) (sym (p .counted)) (rw front-is (missing-in k n h able mk marks-N e weighted))
+            (λ some. subst (InversesBetween (sizeOf n) (sizeOf k) (missingPoints (sizeOf n) mk)) (sym (rest-is (2 * sizeOf n) (omega (arith, N-is)))) (p .inverses some))))
 
 -- What is left: s is what the cells hold when the message is sought, cleared what they hold at the end
 
@@ -201,17 +201,17 @@ module _ (k n : ℕ) (h : Held) (out cells s cleared : List ℕ) (long : length 
   all-zero = clear ∙ ap (λ (m : ℕ). replicate m 0) (same ∙ long) ∙ sym (zeroed-all (decodeRoom n) cells long)
 
   pub recovered : (b : Bool) (o : List ℕ) → decodeOf k n h ≡ cond b (some (messageOf (take k s))) none → b ≡ true
-      → o ≡ written (take (k - 0) s) out → left (result []) o cleared ≡ decoded (decodeOf k n h) n out cells
+      → o ≡ written (take (k - 0) s) out → leaving (result []) o cleared ≡ decoded (decodeOf k n h) n out cells
   recovered b o decodes fits is =
-      ap₂ (left (result []))
+      ap₂ (leaving (result []))
       (is ∙ ap (λ (m : ℕ). written (take m s) out) {x = k - 0} {y = k} (omega arith) ∙ ap (λ (t : List ℕ). written t out) (sym (message-is (take k s))))
       all-zero
       ∙ ap (λ (x : Option (List ℕ)). decoded x n out cells)
       (sym (decodes ∙ ap (λ (x : Bool). cond x (some (messageOf (take k s))) none) fits))
 
   pub disagreed : (b : Bool) → decodeOf k n h ≡ cond b (some (messageOf (take k s))) none → b ≡ false
-      → left (refused (Disagree 0)) out cleared ≡ decoded (decodeOf k n h) n out cells
+      → leaving (refused (Disagree 0)) out cleared ≡ decoded (decodeOf k n h) n out cells
   disagreed b decodes wrong =
-      ap (left (refused (Disagree 0)) out) all-zero
+      ap (leaving (refused (Disagree 0)) out) all-zero
       ∙ ap (λ (x : Option (List ℕ)). decoded x n out cells)
       (sym (decodes ∙ ap (λ (x : Bool). cond x (some (messageOf (take k s))) none) wrong))

@@ -13,21 +13,21 @@ ghost use mathlib.Core.Bool.{cond};
 ghost use mathlib.Core.Option.{some, none};
 ghost use Prim.Native.Nat.{_≤_};
 ghost use lib.ListN.{length, take};
-ghost use Rattle.answers.specs.Leaves.{left};
+ghost use Rattle.answers.specs.Leaves.{leaving};
 ghost use Rattle.answers.specs.Refusals.{toldOutcome};
 ghost use Rattle.code.specs.Decoded.{decoded};
 ghost use Rattle.code.specs.Decoding.{decodeOf};
 ghost use Rattle.code.specs.Held.{held};
 ghost use Rattle.code.specs.Meeting.{messageOf};
 ghost use Rattle.code.specs.Positions.{Inside};
-ghost use Rattle.code.specs.Ready.{Ready};
+ghost use Rattle.code.specs.Decodable.{Decodable};
 ghost use Rattle.code.specs.Repeats.{Apart};
 ghost use Rattle.code.specs.Rooms.{decodeRoom};
 ghost use Rattle.decode_missing.specs.Marks.{Marks};
 ghost use Rattle.decode_block.specs.Multiplied.{Multiplied};
 
 // A mark at each held position, and 0 at the others.
-fn mark(positions: &[u32], marks: &mut [u32])
+fn mark_positions(positions: &[u32], marks: &mut [u32])
     requires { ⌜ Inside (length (now marks)) (now positions) ⌝ }
     ensures { λ _. ⌜ Marks (length (now (marks .entry))) (now (positions .entry)) (now (marks .exit)) ⌝ }
 {
@@ -53,15 +53,15 @@ fn multiply_in(positions: &[u32], values: &[u32], list: &mut [u32])
 }
 
 // Whether a message fits, which then stands at the front of the stated working space.
-fn solve(k: usize, n: usize, positions: &[u32], values: &[u32], cells: &mut [u32]) -> bool
-    requires { ⌜ Ready k n (held (now positions) (now values)) × (length (now cells) ≡ decodeRoom n) ⌝ }
+fn find_message(k: usize, n: usize, positions: &[u32], values: &[u32], cells: &mut [u32]) -> bool
+    requires { ⌜ Decodable k n (held (now positions) (now values)) × (length (now cells) ≡ decodeRoom n) ⌝ }
     ensures { λ r. ⌜ decodeOf k n (held (now (positions .entry)) (now (values .entry))) ≡ cond r (some (messageOf (take k (now (cells .exit))))) none ⌝ }
 {
     let size = size(n);
-    mark(positions, &mut cells[2 * size..3 * size]);
+    mark_positions(positions, &mut cells[2 * size..3 * size]);
     let missing = prepare(k, n, cells);
     multiply_in(positions, values, &mut cells[0..size]);
-    decode_divide::solve(k, n, missing, cells)
+    decode_divide::divide(k, n, missing, cells)
 }
 
 // The message that fits at the output's front, or DISAGREE.
@@ -73,10 +73,10 @@ pub fn recover(
     out: &mut [u32],
     cells: &mut [u32],
 ) -> Outcome
-    requires { ⌜ Ready k n (held (now positions) (now values)) × (k ≤ length (now out)) × (length (now cells) ≡ decodeRoom n) ⌝ }
-    ensures { λ r. ⌜ left (toldOutcome r) (now (out .exit)) (now (cells .exit)) ≡ decoded (decodeOf k n (held (now (positions .entry)) (now (values .entry)))) n (now (out .entry)) (now (cells .entry)) ⌝ }
+    requires { ⌜ Decodable k n (held (now positions) (now values)) × (k ≤ length (now out)) × (length (now cells) ≡ decodeRoom n) ⌝ }
+    ensures { λ r. ⌜ leaving (toldOutcome r) (now (out .exit)) (now (cells .exit)) ≡ decoded (decodeOf k n (held (now (positions .entry)) (now (values .entry)))) n (now (out .entry)) (now (cells .entry)) ⌝ }
 {
-    if solve(k, n, positions, values, cells) {
+    if find_message(k, n, positions, values, cells) {
         copy(&cells[0..k], out);
         clear(cells);
         return Outcome::Done;

@@ -35,7 +35,7 @@ use Rattle.transform_halving.specs.Transform.{sums}
 use Rattle.transform_halving.proofs.Round.{Opposite, round}
 use Rattle.transform_halving.proofs.Sums.{values, sums-values, sums-length, sums-symbols}
 use Rattle.transform_halving.proofs.Undo.{opposite, flipped, scaled-value}
-use Rattle.decode_divide.specs.Dividing.{Divides, Missing}
+use Rattle.decode_divide.specs.Dividing.{Divides, ZeroAt}
 use Rattle.decode_divide.proofs.Quotients.{Quotient, divided-by}
 
 module _ (e k : ℕ) (few-e : e < 16) (zs h : List ℕ) (size : length h ≡ 2 ^ e) (level : levelOf (length h) ≡ e) where
@@ -97,9 +97,9 @@ module _ (e k : ℕ) (few-e : e < 16) (zs h : List ℕ) (size : length h ≡ 2 ^
             (≈-sym (power-≈ (rootOf (length h)) j) ∘≈ same ∘≈ power-≈ (rootOf (length h)) i),
       )))
 
-  settled : (s : List ℕ) → length s ≡ N → Symbols s → ((j : ℕ) → j < N → value s (pointOf N j) ≈ N * getD h j 0) → grown ≡ s
+  by-values : (s : List ℕ) → length s ≡ N → Symbols s → ((j : ℕ) → j < N → value s (pointOf N j) ≈ N * getD h j 0) → grown ≡ s
   unfolding points N
-  settled s long small right =
+  by-values s long small right =
       unique points grown s (grown-length ∙ sym (tab-length N (pointOf N))) (long ∙ sym (tab-length N (pointOf N))) points-apart
       (symbols-every grown grown-symbols) (symbols-every s small)
       (every-tab _ N (pointOf N) (λ j l. grown-at j l ∘≈ ≈-sym (right j l)))
@@ -135,7 +135,7 @@ module _ (e k : ℕ) (few-e : e < 16) (zs h : List ℕ) (size : length h ≡ 2 ^
 
     is-multiple : grown ≡ multiple
     unfolding multiple
-    is-multiple = settled multiple (tab-length N _) (tab-symbols N _ (λ j l. product-lt N (getD padded j 0))) multiple-at
+    is-multiple = by-values multiple (tab-length N _) (tab-symbols N _ (λ j l. product-lt N (getD padded j 0))) multiple-at
 
     -- each is N times that of f·M
     pub entry-of : (i : ℕ) → i < k + length zs → getD grown i 0 ≡ product (length h) (getD (times f zs) i 0)
@@ -166,7 +166,7 @@ module _ (e k : ℕ) (few-e : e < 16) (zs h : List ℕ) (size : length h ≡ 2 ^
     pub divides : Divides k zs h f
     pub values-of : (x : ℕ) → value grown x ≈ length h * (value f x * value (vanishing zs) x)
 
-  module _ (m : Missing k zs h) (none : (i : ℕ) → k + length zs ≤ i → i < length h → getD grown i 0 ≡ 0) where
+  module _ (m : ZeroAt k zs h) (none : (i : ℕ) → k + length zs ≤ i → i < length h → getD grown i 0 ≡ 0) where
     front : List ℕ
     front = take (k + length zs) grown
 

@@ -2,4 +2,4 @@ pub mod Quotients
 pub mod Dividing
 pub mod Untwisting
 pub mod Quotienting
-pub mod Solving
+pub mod Finding

@@ -15,19 +15,19 @@ use Rattle.field.proofs.Ring.{product-lt}
 use Rattle.poly.specs.Tab.{tab}
 use Rattle.poly.proofs.Symbols.{tab-symbols}
 use Rattle.poly.proofs.Tab.{tab-length, tab-ext}
-use Rattle.transform_halving.specs.Ready.{Ready}
+use Rattle.transform_halving.specs.Transformable.{Transformable}
 use Rattle.transform_halving.specs.Transform.{sums}
 use Rattle.transform_halving.proofs.Sums.{sums-length, sums-symbols}
 use Rattle.transform_table.specs.Part.{part, replaced}
 use Rattle.transform_table.specs.Turns.{Tabled}
 use Rattle.transform_table.proofs.Part.{replaced-length, replaced-part, replaced-at, replaced-past, replaced-behind, replaced-twice}
 use Rattle.decode_between.specs.Between.{psi, valuesBetween}
-use Rattle.decode_between.specs.Room.{Table, Room}
-use Rattle.decode_between.proofs.Room.{K-some, table-kept}
+use Rattle.decode_between.specs.Foldable.{PsiTable, Foldable}
+use Rattle.decode_between.proofs.Foldable.{K-some, table-kept}
 use Rattle.decode_between.proofs.Turning.{tabled}
 use Rattle.decode_divide.specs.Quotients.{quotients, untwisted}
 
-module _ (k N K : ℕ) (d : List ℕ) (room : Room N K d) (few : k ≤ K) where
+module _ (k N K : ℕ) (d : List ℕ) (room : Foldable N K d) (few : k ≤ K) where
   inside : N + K ≤ length d
   inside = omega (arith, room .table .long, room .K-fits)
 
@@ -70,7 +70,7 @@ module _ (k N K : ℕ) (d : List ℕ) (room : Room N K d) (few : k ≤ K) where
     again : (y : List ℕ) → replaced N K s y ≡ replaced N K d y
     again y = ap (λ (c : List ℕ). replaced N K c y) is ∙ replaced-twice N K d inside x long y
 
-    held : Table N s
+    held : PsiTable N s
     held = table-kept N d (room .table) s same (behind (3 * N) (omega (arith, room .K-fits)))
 
   module _ (s₁ : List ℕ) (valued : s₁ ≡ replaced N K d (valuesBetween N K (take N d))) where
@@ -94,14 +94,14 @@ module _ (k N K : ℕ) (d : List ℕ) (room : Room N K d) (few : k ≤ K) where
       pub back-asked : Tabled s₂ N K (3 * N) (2 * N / K)
       back-asked =
           tabled N K N s₂ (held s₂ Q divided-is Q-length) (room .K-power) (room .K-fits) (omega (arith, room .K-fits))
-          (subst Ready (sym part-is) (record { size = Q-length ∙ room .K-power ∙ ap sizeOf (sym Q-length); symbols = Q-symbols }))
+          (subst Transformable (sym part-is) (record { size = Q-length ∙ room .K-power ∙ ap sizeOf (sym Q-length); symbols = Q-symbols }))
 
       module _ (s₃ : List ℕ) (back : s₃ ≡ replaced N K s₂ (sums (inverse (rootOf K)) (part N K s₂))) where
         back-is : s₃ ≡ replaced N K d E
         unfolding E
         back-is = back ∙ again s₂ Q divided-is Q-length (sums (inverse (rootOf K)) (part N K s₂)) ∙ ap (λ (q : List ℕ). replaced N K d (sums (inverse (rootOf K)) q)) part-is
 
-        pub untwist-asked : Table N s₃ × (k ≤ N) × (getD s₃ N 0 < 65537)
+        pub untwist-asked : PsiTable N s₃ × (k ≤ N) × (getD s₃ N 0 < 65537)
         unfolding E
         untwist-asked = (
           held s₃ E back-is E-length,

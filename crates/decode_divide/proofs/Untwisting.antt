@@ -27,7 +27,7 @@ use Rattle.transform_halving.proofs.Sums.{values, sums-values}
 use Rattle.transform_halving.proofs.Undo.{opposite}
 use Rattle.decode_between.specs.Between.{psi, between, valuesBetween}
 use Rattle.decode_between.proofs.Between.{psi-half}
-use Rattle.decode_divide.specs.Quotients.{Inverses, quotients, untwisted}
+use Rattle.decode_divide.specs.Quotients.{InversesBetween, quotients, untwisted}
 
 module _ (N K e c : ℕ) (size-N : N ≡ 2 ^ e) (level-N : levelOf N ≡ e) (size-K : K ≡ 2 ^ c) (level-K : levelOf K ≡ c) (le : c ≤ e) (few : e < 16) where
   w : ℕ
@@ -59,7 +59,7 @@ module _ (N K e c : ℕ) (size-N : N ≡ 2 ^ e) (level-N : levelOf N ≡ e) (siz
       together = omega (arith, ap (y *_) (ap (psi N ^_) {x = N} {y = i + (N - i)} (omega arith) ∙ pow-add (psi N) i (N - i)))
 
   -- g is N·f·M, and the inverses are those of N·K·M
-  module _ (k : ℕ) (zs g inverses f : List ℕ) (inverted : Inverses N K zs inverses) (long : length f ≡ k) (small : Symbols f) (enough : k ≤ K) (is : (x : ℕ) → value g x ≈ N * (value f x * value (vanishing zs) x)) where
+  module _ (k : ℕ) (zs g inverses f : List ℕ) (inverted : InversesBetween N K zs inverses) (long : length f ≡ k) (small : Symbols f) (enough : k ≤ K) (is : (x : ℕ) → value g x ≈ N * (value f x * value (vanishing zs) x)) where
     -- the coefficients of f(ψ·X)
     twisted : List ℕ
     twisted = tab K (λ l. getD f l 0 * psi N ^ l)

@@ -21,12 +21,12 @@ pub record Divides (k : ℕ) (zs h f : List ℕ) : Type 0 where
       → value f (pointOf (length h) j) * value (vanishing zs) (pointOf (length h) j) ≈ getD h j 0
 
 -- the missing points are points of the code word, each once, h is 0 there, and at least k others are left
-pub record Missing (k : ℕ) (zs h : List ℕ) : Type 0 where
+pub record ZeroAt (k : ℕ) (zs h : List ℕ) : Type 0 where
   pub few : k + length zs ≤ length h
   pub distinct : Distinct zs
   pub none : Every (λ z. (j : ℕ) × (j < length h) × (z ≡ pointOf (length h) j) × (getD h j 0 ≡ 0)) zs
 
 -- f, or that there is none
-abbrev pub Solved : Bool → ℕ → List ℕ → List ℕ → List ℕ → Type 0
-Solved true k zs h f = Divides k zs h f
-Solved false k zs h f = (g : List ℕ) → ¬ Divides k zs h g
+abbrev pub Divided : Bool → ℕ → List ℕ → List ℕ → List ℕ → Type 0
+Divided true k zs h f = Divides k zs h f
+Divided false k zs h f = (g : List ℕ) → ¬ Divides k zs h g

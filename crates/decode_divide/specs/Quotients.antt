@@ -10,7 +10,7 @@ use Rattle.poly.specs.Value.{value}
 use Rattle.decode_between.specs.Between.{psi, between, valuesBetween}
 
 -- 1 / (N·K·M(y_i)), for the K points y_i between those of the code word
-pub record Inverses (N K : ℕ) (zs inverses : List ℕ) : Type 0 where
+pub record InversesBetween (N K : ℕ) (zs inverses : List ℕ) : Type 0 where
   pub at : (i : ℕ) → i < K → N * K * value (vanishing zs) (between N K i) * getD inverses i 0 ≈ 1
 
 -- the values of N·f·M at the points between, divided by N·K·M there

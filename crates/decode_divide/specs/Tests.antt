@@ -10,6 +10,6 @@ abbrev pub ZeroFrom : ℕ → List ℕ → Type 0
 ZeroFrom from s = (i : ℕ) → from ≤ i → i < length s → getD s i 0 ≡ 0
 
 -- that a test says yes where something holds, and no where it does not
-abbrev pub Told : Bool → Type 0 → Type 0
-Told true holds = holds
-Told false holds = ¬ holds
+abbrev pub Decides : Bool → Type 0 → Type 0
+Decides true holds = holds
+Decides false holds = ¬ holds

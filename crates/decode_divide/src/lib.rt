@@ -20,14 +20,14 @@ ghost use Rattle.field.specs.Size.{sizeOf};
 ghost use Rattle.poly.specs.Tab.{tab};
 ghost use Rattle.transform_halving.specs.Transform.{sums};
 ghost use Rattle.transform_table.specs.Part.{replaced};
-ghost use Rattle.decode_between.specs.Room.{Table, Room};
-ghost use Rattle.decode_divide.specs.Dividing.{Missing, Solved};
-ghost use Rattle.decode_divide.specs.Quotients.{Inverses, quotients, untwisted};
-ghost use Rattle.decode_divide.specs.Tests.{ZeroFrom, Told};
+ghost use Rattle.decode_between.specs.Foldable.{PsiTable, Foldable};
+ghost use Rattle.decode_divide.specs.Dividing.{ZeroAt, Divided};
+ghost use Rattle.decode_divide.specs.Quotients.{InversesBetween, quotients, untwisted};
+ghost use Rattle.decode_divide.specs.Tests.{ZeroFrom, Decides};
 
 // Whether all numbers from an index on are 0.
 fn zero_from(list: &[u32], from: usize) -> bool
-    ensures { λ r. ⌜ Told r (ZeroFrom from (now (list .entry))) ⌝ }
+    ensures { λ r. ⌜ Decides r (ZeroFrom from (now (list .entry))) ⌝ }
 {
     let mut i = from;
     while i < list.len() {
@@ -54,7 +54,7 @@ fn divide_values(size: usize, step: usize, cells: &mut [u32])
 
 // A coefficient of f from that of f(ψ·X): 1/ψ^i is -ψ^(N - i), which the table has but for i = 0.
 fn untwist_one(size: usize, i: usize, cells: &[u32]) -> u32
-    requires { ⌜ Table size (now cells) × (i < size) × (getD (now cells) size 0 < 65537) ⌝ }
+    requires { ⌜ PsiTable size (now cells) × (i < size) × (getD (now cells) size 0 < 65537) ⌝ }
     ensures { λ r. ⌜ r ≡ untwisted size (drop size (now (cells .entry))) i ⌝ }
 {
     if i == 0 {
@@ -65,7 +65,7 @@ fn untwist_one(size: usize, i: usize, cells: &[u32]) -> u32
 
 // The coefficients, to the front.
 fn untwist(k: usize, size: usize, cells: &mut [u32])
-    requires { ⌜ Table size (now cells) × (k ≤ size) × (getD (now cells) size 0 < 65537) ⌝ }
+    requires { ⌜ PsiTable size (now cells) × (k ≤ size) × (getD (now cells) size 0 < 65537) ⌝ }
     ensures { λ _. ⌜ now (cells .exit) ≡ tab k (untwisted size (drop size (now (cells .entry)))) ++ drop k (now (cells .entry)) ⌝ }
 {
     let mut i = 0;
@@ -77,7 +77,7 @@ fn untwist(k: usize, size: usize, cells: &mut [u32])
 
 // From the coefficients of N·f·M in front to those of f, where some point is missing.
 fn quotient(k: usize, size: usize, step: usize, cells: &mut [u32])
-    requires { ⌜ Room size step (now cells) × (k ≤ step) ⌝ }
+    requires { ⌜ Foldable size step (now cells) × (k ≤ step) ⌝ }
     ensures { λ _. ⌜ take k (now (cells .exit)) ≡ tab k (untwisted size (sums (inverse (rootOf step)) (quotients size step (take size (now (cells .entry))) (drop (2 * size) (now (cells .entry)))))) ⌝ }
     ensures { λ _. ⌜ drop (2 * size) (now (cells .exit)) ≡ drop (2 * size) (now (cells .entry)) ⌝ }
 {
@@ -89,9 +89,9 @@ fn quotient(k: usize, size: usize, step: usize, cells: &mut [u32])
 
 // Whether there is such a polynomial, which then stands in front; `missing` is how many points are. It is known after the first transform:
 // M is monic, so f·M has no coefficient from k + missing on. Where nothing is missing M is 1.
-pub fn solve(k: usize, n: usize, missing: usize, cells: &mut [u32]) -> bool
-    requires { ⌜ (badShape k n ≡ false) × Room (sizeOf n) (sizeOf k) (now cells) × (missing ≤ sizeOf n) ⌝ }
-    ensures { λ r. ⌜ ((zs : List ℕ) → length zs ≡ missing → Missing k zs (take (sizeOf n) (now (cells .entry))) → (0 < missing → Inverses (sizeOf n) (sizeOf k) zs (drop (2 * sizeOf n) (now (cells .entry)))) → Solved r k zs (take (sizeOf n) (now (cells .entry))) (take k (now (cells .exit)))) ⌝ }
+pub fn divide(k: usize, n: usize, missing: usize, cells: &mut [u32]) -> bool
+    requires { ⌜ (badShape k n ≡ false) × Foldable (sizeOf n) (sizeOf k) (now cells) × (missing ≤ sizeOf n) ⌝ }
+    ensures { λ r. ⌜ ((zs : List ℕ) → length zs ≡ missing → ZeroAt k zs (take (sizeOf n) (now (cells .entry))) → (0 < missing → InversesBetween (sizeOf n) (sizeOf k) zs (drop (2 * sizeOf n) (now (cells .entry)))) → Divided r k zs (take (sizeOf n) (now (cells .entry))) (take k (now (cells .exit)))) ⌝ }
     ensures { λ _. ⌜ drop (2 * sizeOf n) (now (cells .exit)) ≡ drop (2 * sizeOf n) (now (cells .entry)) ⌝ }
 {
     let step = size(k);

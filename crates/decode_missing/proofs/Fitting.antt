@@ -30,22 +30,22 @@ use Rattle.code.specs.Decoding.{pointsOf, decodeOf}
 use Rattle.code.specs.Fits.{Fits}
 use Rattle.code.specs.Held.{Held}
 use Rattle.code.specs.Meeting.{polynomialOf, messageOf}
-use Rattle.code.specs.Ready.{Ready}
+use Rattle.code.specs.Decodable.{Decodable}
 use Rattle.code.proofs.Decoding.{symbol-≈, decodes-fitting, decodes-none}
 use Rattle.code.proofs.Meeting.{polynomial-message, message-of, polynomial-long, polynomial-symbols}
 use Rattle.code.proofs.Points.{point-one, points-length, points-apart}
-use Rattle.decode_divide.specs.Dividing.{Divides, Missing, Solved}
+use Rattle.decode_divide.specs.Dividing.{Divides, ZeroAt, Divided}
 use Rattle.decode_missing.specs.Marks.{Marks}
-use Rattle.decode_missing.specs.Missing.{missing}
+use Rattle.decode_missing.specs.Missing.{missingPoints}
 use Rattle.decode_missing.specs.Weights.{weights, Weighted}
 use Rattle.decode_missing.proofs.Unmarked.{distinct-append, few-roots, point-full, Unmarked, unmarked-every, unmarked-distinct, unmarked-zero, unmarked-apart}
 
-module _ (k n : ℕ) (h : Held) (ready : Ready k n h) (marks : List ℕ) (m : Marks (sizeOf n) (h .positions) marks) where
+module _ (k n : ℕ) (h : Held) (able : Decodable k n h) (marks : List ℕ) (m : Marks (sizeOf n) (h .positions) marks) where
   zs : List ℕ
-  zs = missing (sizeOf n) marks
+  zs = missingPoints (sizeOf n) marks
 
   inside : (t : ℕ) → t < length (h .positions) → getD (h .positions) t 0 < sizeOf n
-  inside t l = let good = shape-good k n (ready .shape) in lt-of-lt-of-le (ready .inside t l) (size-enough n (le-trans (good .2) longest-le))
+  inside t l = let good = shape-good k n (able .shape) in lt-of-lt-of-le (able .inside t l) (size-enough n (le-trans (good .2) longest-le))
 
   unmarked-all : Every (Unmarked (sizeOf n) marks (sizeOf n)) zs
   unfolding zs
@@ -75,7 +75,7 @@ module _ (k n : ℕ) (h : Held) (ready : Ready k n h) (marks : List ℕ) (m : Ma
       other z (j, l, is, free) t lt same =
           m .held t lt (ap (λ (x : ℕ). getD marks x 0) (point-one n (getD (h .positions) t 0) j (inside t lt) l (same ∘≈ ≈-of is)) ∙ free)
 
-  pub counted : length (h .positions) + length (missing (sizeOf n) marks) ≤ sizeOf n
+  pub counted : length (h .positions) + length (missingPoints (sizeOf n) marks) ≤ sizeOf n
   unfolding zs held-points
   counted =
       omega (
@@ -92,14 +92,14 @@ module _ (k n : ℕ) (h : Held) (ready : Ready k n h) (marks : List ℕ) (m : Ma
       whole = omega (arith, size-power n, pow-pos (levelOf n))
 
       held-apart : Distinct (pointsOf (length (h .positions)) n (h .positions))
-      held-apart = points-apart (length (h .positions)) n (h .positions) (shape-good k n (ready .shape) .2) (le-of-eq refl) (ready .inside) (ready .apart)
+      held-apart = points-apart (length (h .positions)) n (h .positions) (shape-good k n (able .shape) .2) (le-of-eq refl) (able .inside) (able .apart)
 
   -- list holds the held values, each times M(x)
   module _ (list : List ℕ) (w : Weighted (sizeOf n) marks h list) where
     M : ℕ → ℕ
-    M j = value (vanishing (missing (sizeOf n) marks)) (pointOf (sizeOf n) j)
+    M j = value (vanishing (missingPoints (sizeOf n) marks)) (pointOf (sizeOf n) j)
 
-    weight-at : (j : ℕ) → j < sizeOf n → getD (weights (sizeOf n) (missing (sizeOf n) marks)) j 0 ≈ M j
+    weight-at : (j : ℕ) → j < sizeOf n → getD (weights (sizeOf n) (missingPoints (sizeOf n) marks)) j 0 ≈ M j
     unfolding weights M
     weight-at j l = ≈-of (tab-at (sizeOf n) _ j l) ∘≈ mod-≈ _
 
@@ -107,10 +107,10 @@ module _ (k n : ℕ) (h : Held) (ready : Ready k n h) (marks : List ℕ) (m : Ma
     held-at t l =
         ≈-of (w .at t l) ∘≈ product-≈ (getD (h .values) t 0) _ ∘≈ getD (h .values) t 0 ·≈ weight-at (getD (h .positions) t 0) (inside t l)
 
-    pub missing-in : Missing k (missing (sizeOf n) marks) list
+    pub missing-in : ZeroAt k (missingPoints (sizeOf n) marks) list
     missing-in =
         record {
-          few = omega (arith, counted, ready .enough, w .long);
+          few = omega (arith, counted, able .enough, w .long);
           distinct = unmarked-distinct n marks (sizeOf n) (le-of-eq refl);
           none = rw (w .long) (every-map (λ z u. free z u) _ (unmarked-every n marks (sizeOf n)));
         }
@@ -129,13 +129,13 @@ module _ (k n : ℕ) (h : Held) (ready : Ready k n h) (marks : List ℕ) (m : Ma
         (unmarked-apart n marks (getD (h .positions) t 0) (inside t l) (m .held t l)))
         (getD (h .values) t 0) 0 (omega arith)
 
-    divides-fits : (f : List ℕ) → Divides k (missing (sizeOf n) marks) list f → Fits k n h (messageOf f)
+    divides-fits : (f : List ℕ) → Divides k (missingPoints (sizeOf n) marks) list f → Fits k n h (messageOf f)
     divides-fits f d = record { message = message-of k f (d .long) (d .symbols); at = λ t l. right t l }
       where
         there : (j : ℕ) → j < sizeOf n → value f (pointOf (sizeOf n) j) * M j ≈ getD list j 0
         there j l =
             unfold M in
-            subst (λ (x : ℕ). value f (pointOf x j) * value (vanishing (missing (sizeOf n) marks)) (pointOf x j) ≈ getD list j 0) (w .long)
+            subst (λ (x : ℕ). value f (pointOf x j) * value (vanishing (missingPoints (sizeOf n) marks)) (pointOf x j) ≈ getD list j 0) (w .long)
             (d .at j (lt-of-lt-of-le l (le-of-eq (sym (w .long)))))
 
         right : (t : ℕ) → t < length (h .positions) → symbolOf n (messageOf f) (getD (h .positions) t 0) ≡ getD (h .values) t 0
@@ -143,15 +143,15 @@ module _ (k n : ℕ) (h : Held) (ready : Ready k n h) (marks : List ℕ) (m : Ma
             unfold symbolOf in
             ap (λ (s : List ℕ). value s (pointOf (sizeOf n) (getD (h .positions) t 0)) % 65537) (polynomial-message f)
             ∙ cancelled t l _ (there _ (inside t l) ∘≈ held-at t l) .mods
-            ∙ mod-eq-of-lt (ready .symbols t (lt-of-lt-of-le l (le-of-eq (ready .paired))))
+            ∙ mod-eq-of-lt (able .symbols t (lt-of-lt-of-le l (le-of-eq (able .paired))))
 
-    fits-divides : (s : List ℕ) → Fits k n h s → Divides k (missing (sizeOf n) marks) list (polynomialOf s)
+    fits-divides : (s : List ℕ) → Fits k n h s → Divides k (missingPoints (sizeOf n) marks) list (polynomialOf s)
     fits-divides s fits =
         record {
           long = polynomial-long k s (fits .message);
           symbols = polynomial-symbols k s (fits .message);
           at = λ j l.
-              subst (λ (x : ℕ). value (polynomialOf s) (pointOf x j) * value (vanishing (missing (sizeOf n) marks)) (pointOf x j) ≈ getD list j 0)
+              subst (λ (x : ℕ). value (polynomialOf s) (pointOf x j) * value (vanishing (missingPoints (sizeOf n) marks)) (pointOf x j) ≈ getD list j 0)
               (sym (w .long)) (there j (lt-of-lt-of-le l (le-of-eq (w .long))) (ℕ-discrete (getD marks j 0) 0));
         }
       where
@@ -162,14 +162,14 @@ module _ (k n : ℕ) (h : Held) (ready : Ready k n h) (marks : List ℕ) (m : Ma
             ∘≈ ≈-sym (held-at t l))
 
         there : (j : ℕ) → j < sizeOf n → Dec (getD marks j 0 ≡ 0)
-            → value (polynomialOf s) (pointOf (sizeOf n) j) * value (vanishing (missing (sizeOf n) marks)) (pointOf (sizeOf n) j) ≈ getD list j 0
+            → value (polynomialOf s) (pointOf (sizeOf n) j) * value (vanishing (missingPoints (sizeOf n) marks)) (pointOf (sizeOf n) j) ≈ getD list j 0
         there j l (yes unheld) =
             value (polynomialOf s) (pointOf (sizeOf n) j) ·≈ unmarked-zero n marks (sizeOf n) j l unheld
             ∘≈ ≈-of (sym (w .none j l unheld ∙ omega arith))
         there j l (no marked) = unfold M in held-there j (m .only j l marked .0) (m .only j l marked .1) (m .only j l marked .2)
 
     -- what is found in front, or that there is none, decides
-    pub decodes : (r : Bool) (front : List ℕ) → Solved r k (missing (sizeOf n) marks) list front
+    pub decodes : (r : Bool) (front : List ℕ) → Divided r k (missingPoints (sizeOf n) marks) list front
         → decodeOf k n h ≡ cond r (some (messageOf front)) none
-    decodes true front found = decodes-fitting k n h ready (messageOf front) .1 (divides-fits front found)
-    decodes false front never = decodes-none k n h ready .1 (λ s fits. never (polynomialOf s) (fits-divides s fits))
+    decodes true front found = decodes-fitting k n h able (messageOf front) .1 (divides-fits front found)
+    decodes false front never = decodes-none k n h able .1 (λ s fits. never (polynomialOf s) (fits-divides s fits))

@@ -12,5 +12,5 @@ unmarked N marks zero = []
 unmarked N marks (suc b) = cond (eqb (getD marks b 0) 0) (pointOf N b ∷ unmarked N marks b) (unmarked N marks b)
 
 -- the points of all missing positions
-abbrev pub missing : ℕ → List ℕ → List ℕ
-missing N marks = unmarked N marks N
+abbrev pub missingPoints : ℕ → List ℕ → List ℕ
+missingPoints N marks = unmarked N marks N

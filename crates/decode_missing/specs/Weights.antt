@@ -10,7 +10,7 @@ use Rattle.poly.specs.Products.{vanishing}
 use Rattle.poly.specs.Tab.{tab}
 use Rattle.poly.specs.Value.{value}
 use Rattle.code.specs.Held.{Held, heldCount}
-use Rattle.decode_missing.specs.Missing.{missing}
+use Rattle.decode_missing.specs.Missing.{missingPoints}
 
 -- M(x) at the N points
 unfoldable pub weights : ℕ → List ℕ → List ℕ
@@ -20,5 +20,5 @@ weights N zs = tab N (λ j. value (vanishing zs) (pointOf N j) % 65537)
 pub record Weighted (N : ℕ) (marks : List ℕ) (h : Held) (list : List ℕ) : Type 0 where
   pub long : length list ≡ N
   pub at : (t : ℕ) → t < heldCount h
-      → getD list (getD (h .positions) t 0) 0 ≡ product (getD (h .values) t 0) (getD (weights N (missing N marks)) (getD (h .positions) t 0) 0)
+      → getD list (getD (h .positions) t 0) 0 ≡ product (getD (h .values) t 0) (getD (weights N (missingPoints N marks)) (getD (h .positions) t 0) 0)
   pub none : (j : ℕ) → j < N → getD marks j 0 ≡ 0 → getD list j 0 ≡ 0

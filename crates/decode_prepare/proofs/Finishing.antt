@@ -33,11 +33,11 @@ use Rattle.transform_halving.proofs.Sums.{values}
 use Rattle.transform_halving.proofs.Undo.{transform-values}
 use Rattle.transform_table.specs.Part.{part}
 use Rattle.decode_between.specs.Between.{psi, between, valuesBetween}
-use Rattle.decode_between.specs.Room.{Table, Room}
+use Rattle.decode_between.specs.Foldable.{PsiTable, Foldable}
 use Rattle.decode_between.proofs.Between.{between-apart}
-use Rattle.decode_between.proofs.Room.{size-N, size-K, levels}
-use Rattle.decode_divide.specs.Quotients.{Inverses}
-use Rattle.decode_missing.specs.Missing.{missing}
+use Rattle.decode_between.proofs.Foldable.{size-N, size-K, levels}
+use Rattle.decode_divide.specs.Quotients.{InversesBetween}
+use Rattle.decode_missing.specs.Missing.{missingPoints}
 use Rattle.decode_missing.specs.Weights.{weights}
 use Rattle.decode_missing.proofs.Unmarked.{Unmarked, unmarked-every, point-full}
 use Rattle.decode_prepare.specs.Prepared.{Prepared}
@@ -60,7 +60,7 @@ module _ (N p : ℕ) (zs s : List ℕ) (is : s ≡ vanishing zs ++ replicate p 0
       subst Symbols (sym is) (append-symbols (vanishing zs) (replicate p 0) (symbols-at (vanishing zs) (vanishing-symbols zs)) (zeros-symbols p))
 
   -- an inverse, in the order in which it is worked out
-  module _ (K : ℕ) (cells : List ℕ) (room : Room N K cells) (full : Every (λ z. z ^ N ≈ 1) zs) where
+  module _ (K : ℕ) (cells : List ℕ) (room : Foldable N K cells) (full : Every (λ z. z ^ N ≈ 1) zs) where
     not-zero : (m e : ℕ) → m ≡ 2 ^ e → e < 16 → ¬ (m ≈ 0)
     not-zero m e power-of-two few none = absurd (omega (arith, none .mods, power-of-two, pow-pos e, pow-mono {i = e} {j = 15} (omega arith)))
 
@@ -93,13 +93,13 @@ module _ (N p : ℕ) (zs s : List ℕ) (is : s ≡ vanishing zs ++ replicate p 0
 -- What the preparation promises, over N and K
 abbrev Holds : ℕ → List ℕ → List ℕ → ℕ → ℕ → Type 0
 Holds count d cells N K =
-    (count ≡ length (missing N (part (2 * N) N d)))
-    × Table N cells
-    × (take N cells ≡ weights N (missing N (part (2 * N) N d)))
-    × (0 < count → Inverses N K (missing N (part (2 * N) N d)) (drop (2 * N) cells))
+    (count ≡ length (missingPoints N (part (2 * N) N d)))
+    × PsiTable N cells
+    × (take N cells ≡ weights N (missingPoints N (part (2 * N) N d)))
+    × (0 < count → InversesBetween N K (missingPoints N (part (2 * N) N d)) (drop (2 * N) cells))
 
 -- N and K as the calls give them, and the cells after the beginning
-module _ (k n : ℕ) (d : List ℕ) (shape : badShape k n ≡ false) (long : length d ≡ 4 * sizeOf n) (some : length (missing (sizeOf n) (part (2 * sizeOf n) (sizeOf n) d)) < sizeOf n) (N K : ℕ) (N-is : N ≡ sizeOf n) (K-is : K ≡ sizeOf k) where
+module _ (k n : ℕ) (d : List ℕ) (shape : badShape k n ≡ false) (long : length d ≡ 4 * sizeOf n) (some : length (missingPoints (sizeOf n) (part (2 * sizeOf n) (sizeOf n) d)) < sizeOf n) (N K : ℕ) (N-is : N ≡ sizeOf n) (K-is : K ≡ sizeOf k) where
   prepared : (count : ℕ) (cells : List ℕ) → Holds count d cells N K → Prepared k n (part (2 * sizeOf n) (sizeOf n) d) count cells
   prepared count cells h =
       let all = subst (λ (x : ℕ). Holds count d cells x (sizeOf k)) N-is (subst (Holds count d cells N) K-is h) in
@@ -121,17 +121,17 @@ module _ (k n : ℕ) (d : List ℕ) (shape : badShape k n ≡ false) (long : len
   long-N = long ∙ ap (4 *_) (sym N-is)
 
   zs : List ℕ
-  zs = missing N (part (2 * N) N d)
+  zs = missingPoints N (part (2 * N) N d)
 
   few : length zs < N
   unfolding zs
-  few = subst (λ (x : ℕ). length (missing x (part (2 * x) x d)) < x) (sym N-is) some
+  few = subst (λ (x : ℕ). length (missingPoints x (part (2 * x) x d)) < x) (sym N-is) some
 
   full : Every (λ z. z ^ N ≈ 1) zs
   unfolding zs
-  full = subst (λ (x : ℕ). Every (λ z. z ^ x ≈ 1) (missing x (part (2 * x) x d))) (sym N-is) there
+  full = subst (λ (x : ℕ). Every (λ z. z ^ x ≈ 1) (missingPoints x (part (2 * x) x d))) (sym N-is) there
     where
-      there : Every (λ z. z ^ sizeOf n ≈ 1) (missing (sizeOf n) (part (2 * sizeOf n) (sizeOf n) d))
+      there : Every (λ z. z ^ sizeOf n ≈ 1) (missingPoints (sizeOf n) (part (2 * sizeOf n) (sizeOf n) d))
       there = every-map (λ z u. at z u) _ (unmarked-every n (part (2 * sizeOf n) (sizeOf n) d) (sizeOf n))
         where
           at : (z : ℕ) → Unmarked (sizeOf n) (part (2 * sizeOf n) (sizeOf n) d) (sizeOf n) z → z ^ sizeOf n ≈ 1
@@ -139,14 +139,14 @@ module _ (k n : ℕ) (d : List ℕ) (shape : badShape k n ≡ false) (long : len
 
   points-symbols : Symbols zs
   unfolding zs
-  points-symbols = symbols-at zs (every-map (λ z u. at z u) zs (subst (λ (x : ℕ). Every (Unmarked x (part (2 * x) x d) x) (missing x (part (2 * x) x d))) (sym N-is) (unmarked-every n (part (2 * sizeOf n) (sizeOf n) d) (sizeOf n))))
+  points-symbols = symbols-at zs (every-map (λ z u. at z u) zs (subst (λ (x : ℕ). Every (Unmarked x (part (2 * x) x d) x) (missingPoints x (part (2 * x) x d))) (sym N-is) (unmarked-every n (part (2 * sizeOf n) (sizeOf n) d) (sizeOf n))))
     where
       at : (z : ℕ) → Unmarked N (part (2 * N) N d) N z → z < 65537
       at z (j, l, is, free) = unfold pointOf in rw is (power-lt (rootOf N) j)
 
   -- s is what the beginning leaves
-  module _ (r : ℕ) (s : List ℕ) (s-long : length s ≡ length d) (count : r ≡ length (missing N (part (2 * N) N d))) (front : take N s ≡ replicate (N - r) 0 ++ missing N (part (2 * N) N d)) (powers : drop (3 * N) s ≡ tab N (power (psi N))) where
-    table-of : (t : List ℕ) → length t ≡ length d → drop (3 * N) t ≡ drop (3 * N) s → Table N t
+  module _ (r : ℕ) (s : List ℕ) (s-long : length s ≡ length d) (count : r ≡ length (missingPoints N (part (2 * N) N d))) (front : take N s ≡ replicate (N - r) 0 ++ missingPoints N (part (2 * N) N d)) (powers : drop (3 * N) s ≡ tab N (power (psi N))) where
+    table-of : (t : List ℕ) → length t ≡ length d → drop (3 * N) t ≡ drop (3 * N) s → PsiTable N t
     table-of t same back = record { long = same ∙ long-N; N-power = power-of-two; N-root = root-there; powers = back ∙ powers }
 
     -- where nothing is missing
@@ -183,15 +183,15 @@ module _ (k n : ℕ) (d : List ℕ) (shape : badShape k n ≡ false) (long : len
           prepared 0 filled (
             sym all ∙ count,
             table-of filled filled-long filled-back,
-            take-at e (drop (N - 0) s) N e-long ∙ e-is ∙ no-weights (missing N (part (2 * N) N d)) (sym count ∙ all),
+            take-at e (drop (N - 0) s) N e-long ∙ e-is ∙ no-weights (missingPoints N (part (2 * N) N d)) (sym count ∙ all),
             λ more. absurd (omega arith),
           )
 
     -- where something is
 
-    split-front : s ≡ replicate (N - r) 0 ++ (missing N (part (2 * N) N d) ++ drop N s)
+    split-front : s ≡ replicate (N - r) 0 ++ (missingPoints N (part (2 * N) N d) ++ drop N s)
     split-front =
-        sym (take-append-drop N s) ∙ ap (_++ drop N s) front ∙ append-assoc (replicate (N - r) 0) (missing N (part (2 * N) N d)) (drop N s)
+        sym (take-append-drop N s) ∙ ap (_++ drop N s) front ∙ append-assoc (replicate (N - r) 0) (missingPoints N (part (2 * N) N d)) (drop N s)
 
     zeros-long : length (replicate {A = ℕ} (N - r) 0) ≡ N - r
     zeros-long = length-replicate (N - r) 0
@@ -200,11 +200,11 @@ module _ (k n : ℕ) (d : List ℕ) (shape : badShape k n ≡ false) (long : len
     unfolding zs
     few-r = rw count few
 
-    points-there : part (N - r) r s ≡ missing N (part (2 * N) N d)
+    points-there : part (N - r) r s ≡ missingPoints N (part (2 * N) N d)
     points-there =
         ap (part (N - r) r) split-front
         ∙ ap (take r) (drop-at (replicate (N - r) 0) _ (N - r) zeros-long)
-        ∙ take-at (missing N (part (2 * N) N d)) (drop N s) r (sym count)
+        ∙ take-at (missingPoints N (part (2 * N) N d)) (drop N s) r (sym count)
 
     pub product-asked : 0 < r
         → ((length s ≡ 4 * N) × (N ≡ sizeOf N) × (levelOf N < 16) × (0 < r) × (r < N))
@@ -217,7 +217,7 @@ module _ (k n : ℕ) (d : List ℕ) (shape : badShape k n ≡ false) (long : len
 
     -- M's coefficients in front
     module _ (s₂ : List ℕ) (long₂ : length s₂ ≡ length s) (laid : take N s₂ ≡ vanishing (part (N - r) r s) ++ replicate (N - r - 1) 0) (back₂ : drop (2 * N) s₂ ≡ drop (2 * N) s) where
-      laid-is : take N s₂ ≡ vanishing (missing N (part (2 * N) N d)) ++ replicate (N - r - 1) 0
+      laid-is : take N s₂ ≡ vanishing (missingPoints N (part (2 * N) N d)) ++ replicate (N - r - 1) 0
       laid-is = laid ∙ ap (λ (z : List ℕ). vanishing z ++ replicate (N - r - 1) 0) points-there
 
       powers₂ : drop (3 * N) s₂ ≡ drop (3 * N) s
@@ -226,13 +226,13 @@ module _ (k n : ℕ) (d : List ℕ) (shape : badShape k n ≡ false) (long : len
           further : (t : List ℕ) → drop (3 * N) t ≡ drop N (drop (2 * N) t)
           further t = sym (drop-drop N (2 * N) t ∙ ap (λ (m : ℕ). drop m t) {x = 2 * N + N} {y = 3 * N} (omega arith))
 
-      pub weigh-asked : Room N K s₂
+      pub weigh-asked : Foldable N K s₂
       weigh-asked =
           record {
             table = table-of s₂ (long₂ ∙ s-long) powers₂;
             K-power = K-power-of-two;
             K-fits = K-fits;
-            symbols = product-symbols N (N - r - 1) (missing N (part (2 * N) N d)) (take N s₂) laid-is;
+            symbols = product-symbols N (N - r - 1) (missingPoints N (part (2 * N) N d)) (take N s₂) laid-is;
           }
 
       module _ (s₃ : List ℕ) (long₃ : length s₃ ≡ length s₂) (weighed : take N s₃ ≡ transformOf (take N s₂)) (inverted : take K (drop (2 * N) s₃) ≡ tab K (λ i. inverse (product (product N K) (getD (valuesBetween N K (take N s₂)) i 0)))) (back₃ : drop (3 * N) s₃ ≡ drop (3 * N) s₂) where
@@ -245,11 +245,11 @@ module _ (k n : ℕ) (d : List ℕ) (shape : badShape k n ≡ false) (long : len
             prepared r s₃ (
               count,
               table-of s₃ (long₃ ∙ long₂ ∙ s-long) (back₃ ∙ powers₂),
-              weighed ∙ weights-are N (N - r - 1) (missing N (part (2 * N) N d)) (take N s₂) laid-is (length-take-le N s₂ (omega (arith, long₂, s-long, long-N))),
+              weighed ∙ weights-are N (N - r - 1) (missingPoints N (part (2 * N) N d)) (take N s₂) laid-is (length-take-le N s₂ (omega (arith, long₂, s-long, long-N))),
               λ more.
                   record {
                     at = λ i l.
                         rw (inverse-at i l)
-                        (inverse-there N (N - r - 1) (missing N (part (2 * N) N d)) (take N s₂) laid-is K s₂ weigh-asked full i l);
+                        (inverse-there N (N - r - 1) (missingPoints N (part (2 * N) N d)) (take N s₂) laid-is K s₂ weigh-asked full i l);
                   },
             )

@@ -13,7 +13,7 @@ use Rattle.poly.specs.Tab.{tab}
 use Rattle.poly.proofs.Tab.{tab-length}
 use Rattle.transform_table.specs.Part.{part}
 use Rattle.decode_between.specs.Between.{psi}
-use Rattle.decode_missing.specs.Missing.{missing}
+use Rattle.decode_missing.specs.Missing.{missingPoints}
 use Rattle.decode_missing.proofs.Laying.{unmarked-le}
 
 zeros-taken : (m n : ℕ) → m ≤ n → take m (replicate {A = ℕ} n 0) ≡ replicate m 0
@@ -107,29 +107,29 @@ module _ (N : ℕ) (d : List ℕ) (long : length d ≡ 4 * N) where
       marks-are : take N (drop (2 * N) clean) ≡ take N (drop (2 * N) d)
       marks-are = ap (take N) (clean-rest (2 * N) (le-of-eq refl)) ∙ laid-marks
 
-      module _ (r : ℕ) (s : List ℕ) (count : r ≡ length (missing N (take N (drop (2 * N) clean)))) (points : s ≡ replicate (N - r) 0 ++ (missing N (take N (drop (2 * N) clean)) ++ drop N clean)) where
-        pub begun-count : r ≡ length (missing N (take N (drop (2 * N) d)))
-        begun-count = count ∙ ap (λ (m : List ℕ). length (missing N m)) marks-are
+      module _ (r : ℕ) (s : List ℕ) (count : r ≡ length (missingPoints N (take N (drop (2 * N) clean)))) (points : s ≡ replicate (N - r) 0 ++ (missingPoints N (take N (drop (2 * N) clean)) ++ drop N clean)) where
+        pub begun-count : r ≡ length (missingPoints N (take N (drop (2 * N) d)))
+        begun-count = count ∙ ap (λ (m : List ℕ). length (missingPoints N m)) marks-are
 
-        s-is : s ≡ (replicate (N - r) 0 ++ missing N (take N (drop (2 * N) d))) ++ drop N clean
+        s-is : s ≡ (replicate (N - r) 0 ++ missingPoints N (take N (drop (2 * N) d))) ++ drop N clean
         s-is =
             points
-            ∙ ap (λ (m : List ℕ). replicate (N - r) 0 ++ (missing N m ++ drop N clean)) marks-are
-            ∙ sym (append-assoc (replicate (N - r) 0) (missing N (take N (drop (2 * N) d))) (drop N clean))
+            ∙ ap (λ (m : List ℕ). replicate (N - r) 0 ++ (missingPoints N m ++ drop N clean)) marks-are
+            ∙ sym (append-assoc (replicate (N - r) 0) (missingPoints N (take N (drop (2 * N) d))) (drop N clean))
 
-        s-front-long : length (replicate (N - r) 0 ++ missing N (take N (drop (2 * N) d))) ≡ N
+        s-front-long : length (replicate (N - r) 0 ++ missingPoints N (take N (drop (2 * N) d))) ≡ N
         s-front-long =
             length-append (replicate (N - r) 0) _
             ∙ omega (arith, length-replicate {A = ℕ} (N - r) 0, begun-count, unmarked-le N (take N (drop (2 * N) d)) N)
 
-        pub begun-front : take N s ≡ replicate (N - r) 0 ++ missing N (take N (drop (2 * N) d))
+        pub begun-front : take N s ≡ replicate (N - r) 0 ++ missingPoints N (take N (drop (2 * N) d))
         begun-front = ap (take N) s-is ∙ take-at _ (drop N clean) N s-front-long
 
         pub begun-powers : drop (3 * N) s ≡ tab N (power (psi N))
         begun-powers =
             ap (drop (3 * N)) s-is
-            ∙ ap (λ (m : ℕ). drop m ((replicate (N - r) 0 ++ missing N (take N (drop (2 * N) d))) ++ drop N clean)) {x = 3 * N} {y = length (replicate (N - r) 0 ++ missing N (take N (drop (2 * N) d))) + 2 * N} (omega (arith, s-front-long))
-            ∙ drop-append-add (replicate (N - r) 0 ++ missing N (take N (drop (2 * N) d))) (drop N clean) (2 * N)
+            ∙ ap (λ (m : ℕ). drop m ((replicate (N - r) 0 ++ missingPoints N (take N (drop (2 * N) d))) ++ drop N clean)) {x = 3 * N} {y = length (replicate (N - r) 0 ++ missingPoints N (take N (drop (2 * N) d))) + 2 * N} (omega (arith, s-front-long))
+            ∙ drop-append-add (replicate (N - r) 0 ++ missingPoints N (take N (drop (2 * N) d))) (drop N clean) (2 * N)
             ∙ drop-drop (2 * N) N clean
             ∙ ap (λ (m : ℕ). drop m clean) {x = N + 2 * N} {y = 3 * N} (omega arith)
             ∙ clean-rest (3 * N) (omega arith)

@@ -17,11 +17,11 @@ use Rattle.transform_table.specs.Part.{part, replaced}
 use Rattle.transform_table.specs.Turns.{Tabled}
 use Rattle.transform_table.proofs.Part.{replaced-front, replaced-length, replaced-part, replaced-at, replaced-behind}
 use Rattle.decode_between.specs.Between.{valuesBetween}
-use Rattle.decode_between.specs.Room.{Room}
-use Rattle.decode_between.proofs.Room.{N-small, table-kept}
+use Rattle.decode_between.specs.Foldable.{Foldable}
+use Rattle.decode_between.proofs.Foldable.{N-small, table-kept}
 use Rattle.decode_between.proofs.Turning.{whole-tabled}
 
-module _ (N K : ℕ) (d : List ℕ) (room : Room N K d) where
+module _ (N K : ℕ) (d : List ℕ) (room : Foldable N K d) where
   values-length : length (valuesBetween N K (take N d)) ≡ K
   unfolding valuesBetween
   values-length = tab-length K _

@@ -26,8 +26,8 @@ ghost use Rattle.poly.specs.Tab.{tab};
 ghost use Rattle.transform_halving.specs.Transform.{transformOf};
 ghost use Rattle.transform_table.specs.Part.{replaced};
 ghost use Rattle.decode_between.specs.Between.{psi, valuesBetween};
-ghost use Rattle.decode_between.specs.Room.{Room};
-ghost use Rattle.decode_missing.specs.Missing.{missing};
+ghost use Rattle.decode_between.specs.Foldable.{Foldable};
+ghost use Rattle.decode_missing.specs.Missing.{missingPoints};
 ghost use Rattle.decode_prepare.specs.Prepared.{Prepared};
 
 fn fill_ones(list: &mut [u32])
@@ -56,7 +56,7 @@ fn invert(size: usize, step: usize, cells: &mut [u32])
 
 // From M's coefficients in front: M at the points between, inverted, and then M at the N points, in front.
 fn weigh(size: usize, step: usize, cells: &mut [u32])
-    requires { ⌜ Room size step (now cells) ⌝ }
+    requires { ⌜ Foldable size step (now cells) ⌝ }
     ensures { λ _. ⌜ take size (now (cells .exit)) ≡ transformOf (take size (now (cells .entry))) ⌝ }
     ensures { λ _. ⌜ take step (drop (2 * size) (now (cells .exit))) ≡ tab step (λ i. inverse (product (product size step) (getD (valuesBetween size step (take size (now (cells .entry)))) i 0))) ⌝ }
     ensures { λ _. ⌜ drop (3 * size) (now (cells .exit)) ≡ drop (3 * size) (now (cells .entry)) ⌝ }
@@ -69,8 +69,8 @@ fn weigh(size: usize, step: usize, cells: &mut [u32])
 // The powers of ψ, and the missing points before the end of the first N cells; how many they are.
 fn begin(size: usize, cells: &mut [u32]) -> usize
     requires { ⌜ (length (now cells) ≡ 4 * size) × (size ≡ sizeOf size) × (levelOf size < 16) ⌝ }
-    ensures { λ r. ⌜ r ≡ length (missing size (take size (drop (2 * size) (now (cells .entry))))) ⌝ }
-    ensures { λ r. ⌜ take size (now (cells .exit)) ≡ replicate (size - r) 0 ++ missing size (take size (drop (2 * size) (now (cells .entry)))) ⌝ }
+    ensures { λ r. ⌜ r ≡ length (missingPoints size (take size (drop (2 * size) (now (cells .entry))))) ⌝ }
+    ensures { λ r. ⌜ take size (now (cells .exit)) ≡ replicate (size - r) 0 ++ missingPoints size (take size (drop (2 * size) (now (cells .entry)))) ⌝ }
     ensures { λ _. ⌜ drop (3 * size) (now (cells .exit)) ≡ tab size (power (psi size)) ⌝ }
 {
     let twist = root(level(size) + 1);
@@ -81,7 +81,7 @@ fn begin(size: usize, cells: &mut [u32]) -> usize
 
 // How many positions are missing. Where none is M is 1.
 pub fn prepare(k: usize, n: usize, cells: &mut [u32]) -> usize
-    requires { ⌜ (badShape k n ≡ false) × (length (now cells) ≡ 4 * sizeOf n) × (length (missing (sizeOf n) (take (sizeOf n) (drop (2 * sizeOf n) (now cells)))) < sizeOf n) ⌝ }
+    requires { ⌜ (badShape k n ≡ false) × (length (now cells) ≡ 4 * sizeOf n) × (length (missingPoints (sizeOf n) (take (sizeOf n) (drop (2 * sizeOf n) (now cells)))) < sizeOf n) ⌝ }
     ensures { λ r. ⌜ Prepared k n (take (sizeOf n) (drop (2 * sizeOf n) (now (cells .entry)))) r (now (cells .exit)) ⌝ }
 {
     let step = size(k);

@@ -12,8 +12,8 @@ use Rattle.poly.specs.Tab.{tab}
 use Rattle.poly.proofs.Tab.{tab-length, tab-ext, tab-append}
 use Rattle.poly.proofs.Window.{window, window-none, window-length, window-store, window-set-before, window-before, window-past, window-at, window-end}
 use Rattle.decode_product.specs.Factors.{coefficient, monicTimes}
-use Rattle.decode_product.specs.Halves.{TwoFactors, left, right, repeated}
-use Rattle.decode_product.proofs.Quarters.{Quarters, quarters, left-length, right-length}
+use Rattle.decode_product.specs.Halves.{TwoFactors, firstFactor, secondFactor, repeated}
+use Rattle.decode_product.proofs.Quarters.{Quarters, quarters, first-factor-length, second-factor-length}
 use Rattle.decode_product.proofs.Repeating.{part-tab, repeated-before, repeated-there, repeated-past}
 use Rattle.decode_product.proofs.Times.{times-length}
 
@@ -23,7 +23,7 @@ same-part : (at n : ℕ) (s t : List ℕ) → at + n ≤ length s → at + n ≤
 same-part at n s t in-s in-t same = sym (part-tab at n s in-s) ∙ tab-ext n _ _ same ∙ part-tab at n t in-t
 
 -- cells that have the same two lists are good too
-same-lists : (d e : List ℕ) → TwoFactors d → length e ≡ length d → left e ≡ left d → right e ≡ right d → TwoFactors e
+same-lists : (d e : List ℕ) → TwoFactors d → length e ≡ length d → firstFactor e ≡ firstFactor d → secondFactor e ≡ secondFactor d → TwoFactors e
 same-lists d e two long one other =
     record {
       size = long ∙ two .size ∙ ap sizeOf (sym long);
@@ -34,10 +34,10 @@ same-lists d e two long one other =
 
 module _ (d : List ℕ) where
   abbrev low : ℕ → ℕ
-  low = coefficient (left d) (right d)
+  low = coefficient (firstFactor d) (secondFactor d)
 
   abbrev high : ℕ → ℕ
-  high i = coefficient (left d) (right d) (length d / 4 + i)
+  high i = coefficient (firstFactor d) (secondFactor d) (length d / 4 + i)
 
   unfoldable pub filling : ℕ → List ℕ
   filling i = window (length d / 4 * 3) i high (window (length d / 4) i low d)
@@ -73,12 +73,12 @@ module _ (d : List ℕ) where
           ∙ window-before (length d / 4 * 3) i (length d / 2 + j) high _ (omega (arith, whole)) (omega (arith, whole, inner-length))
           ∙ window-past (length d / 4) i (length d / 2 + j) low d (omega (arith, whole)) (omega arith)
 
-      filling-left : left e ≡ left d
+      filling-left : firstFactor e ≡ firstFactor d
       filling-left =
           ap (λ (n : ℕ). take (n / 4) e) filling-length
           ∙ same-part 0 (length d / 4) e d (omega (arith, filling-length)) (omega arith) unfilled
 
-      filling-right : right e ≡ right d
+      filling-right : secondFactor e ≡ secondFactor d
       filling-right =
           ap (λ (n : ℕ). take (n / 4) (drop (n / 2) e)) filling-length
           ∙ same-part (length d / 2) (length d / 4) e d (omega (arith, whole, filling-length)) (omega (arith, whole)) unfilled-between
@@ -87,11 +87,11 @@ module _ (d : List ℕ) where
       filling-good = same-lists d e two filling-length filling-left filling-right
 
       -- a coefficient of what stands in the cells is one of what stood there
-      kept : (j : ℕ) → coefficient (left e) (right e) j ≡ coefficient (left d) (right d) j
+      kept : (j : ℕ) → coefficient (firstFactor e) (secondFactor e) j ≡ coefficient (firstFactor d) (secondFactor d) j
       kept j = ap₂ (λ (a b : List ℕ). coefficient a b j) filling-left filling-right
 
-      pub filling-more : (v u : ℕ) → i < length d / 4 → v ≡ coefficient (left e) (right e) i
-          → u ≡ coefficient (left e) (right e) (length e / 4 + i)
+      pub filling-more : (v u : ℕ) → i < length d / 4 → v ≡ coefficient (firstFactor e) (secondFactor e) i
+          → u ≡ coefficient (firstFactor e) (secondFactor e) (length e / 4 + i)
           → set (set e (length d / 4 + i) v) (length d / 4 * 3 + i) u ≡ filling (i + 1)
       unfolding filling
       filling-more v u l below above =
@@ -101,15 +101,15 @@ module _ (d : List ℕ) where
           ∙ window-set-before (length d / 4 * 3) i (length d / 4 + i) high _ v (omega arith) (omega (arith, whole, inner-length))
           ∙ ap (window (length d / 4 * 3) i high)
           (window-store (length d / 4) i (length d / 4 + i) low d (window (length d / 4) i low d) v refl (omega (arith, whole)) refl (below ∙ kept i)))
-          (above ∙ ap (λ (n : ℕ). coefficient (left e) (right e) (n / 4 + i)) filling-length ∙ kept (length d / 4 + i))
+          (above ∙ ap (λ (n : ℕ). coefficient (firstFactor e) (secondFactor e) (n / 4 + i)) filling-length ∙ kept (length d / 4 + i))
 
     -- the product in two parts
-    times-parts : monicTimes (left d) (right d) ≡ tab (length d / 4) low ++ tab (length d / 4) high
+    times-parts : monicTimes (firstFactor d) (secondFactor d) ≡ tab (length d / 4) low ++ tab (length d / 4) high
     unfolding monicTimes
-    times-parts = rw (left-length d two, right-length d two) (tab-append (length d / 4) (length d / 4) low)
+    times-parts = rw (first-factor-length d two, second-factor-length d two) (tab-append (length d / 4) (length d / 4) low)
 
     module _ (e : List ℕ) (is : e ≡ filling (length d / 4)) where
-      pub filled-low : take (length d / 4) (drop (length d / 4) e) ≡ take (length d / 4) (monicTimes (left d) (right d))
+      pub filled-low : take (length d / 4) (drop (length d / 4) e) ≡ take (length d / 4) (monicTimes (firstFactor d) (secondFactor d))
       unfolding filling
       filled-low =
           sym (part-tab (length d / 4) (length d / 4) e (omega (arith, whole, filling-length (length d / 4) e is (omega arith))))
@@ -120,7 +120,7 @@ module _ (d : List ℕ) where
           ∙ window-at (length d / 4) (length d / 4) j low d l (omega arith))
           ∙ sym (ap (take (length d / 4)) times-parts ∙ take-at _ _ (length d / 4) (tab-length (length d / 4) low))
 
-      pub filled-high : drop (length d / 4 * 3) e ≡ drop (length d / 4) (monicTimes (left d) (right d))
+      pub filled-high : drop (length d / 4 * 3) e ≡ drop (length d / 4) (monicTimes (firstFactor d) (secondFactor d))
       unfolding filling
       filled-high =
           ap (drop (length d / 4 * 3)) (is ∙ window-end (length d / 4 * 3) (length d / 4) high _ (omega (arith, whole, long)))
@@ -132,11 +132,11 @@ module _ (d : List ℕ) where
 
     -- both halves of the product, brought from the room to the front
     pub gathered : (e s t : List ℕ) → length e ≡ length d
-        → (take (length d / 4) (drop (length d / 4) e) ≡ take (length d / 4) (monicTimes (left d) (right d)))
-        × (drop (length d / 4 * 3) e ≡ drop (length d / 4) (monicTimes (left d) (right d)))
+        → (take (length d / 4) (drop (length d / 4) e) ≡ take (length d / 4) (monicTimes (firstFactor d) (secondFactor d)))
+        × (drop (length d / 4 * 3) e ≡ drop (length d / 4) (monicTimes (firstFactor d) (secondFactor d)))
         → s ≡ repeated (length d / 4) 0 (length d / 4) e → length s ≡ length e
         → t ≡ repeated (length d / 4 * 3) (length d / 4) (length d / 4) s
-        → take (length d / 2) t ≡ monicTimes (left d) (right d)
+        → take (length d / 2) t ≡ monicTimes (firstFactor d) (secondFactor d)
     gathered e s t long filled once long' twice =
         ap (λ (n : ℕ). take n t) {x = length d / 2} {y = q + q} (omega (arith, whole))
         ∙ take-add q q t
@@ -149,11 +149,11 @@ module _ (d : List ℕ) where
         (ap (λ (l : List ℕ). take q (drop q l)) twice
         ∙ repeated-there (q * 3) q q s (omega (arith, whole)) (omega (arith, whole))
         ∙ ap (take q) (ap (drop (q * 3)) once ∙ repeated-past q 0 q e (omega (arith, whole)) (omega (arith, whole)) (q * 3) (omega arith) ∙ filled .1)
-        ∙ take-all q (drop q product) (omega (arith, length-drop q product, times-length (left d) (right d), left-length d two, right-length d two)))
+        ∙ take-all q (drop q product) (omega (arith, length-drop q product, times-length (firstFactor d) (secondFactor d), first-factor-length d two, second-factor-length d two)))
         ∙ take-append-drop q product
       where
         q : ℕ
         q = length d / 4
 
         product : List ℕ
-        product = monicTimes (left d) (right d)
+        product = monicTimes (firstFactor d) (secondFactor d)

@@ -11,7 +11,7 @@ use lib.Seq.{length-take-le, take-at, drop-at, take-all, take-take}
 use Rattle.field.specs.Size.{sizeOf}
 use Rattle.field.specs.Symbol.{Symbols}
 use Rattle.field.proofs.Sizes.{size-of-power}
-use Rattle.decode_product.specs.Halves.{HalfReady, TwoFactors, left, right}
+use Rattle.decode_product.specs.Halves.{SymbolsInFront, TwoFactors, firstFactor, secondFactor}
 use Rattle.decode_product.proofs.Quarters.{Quarters, quarters}
 
 module _ (d : List ℕ) (two : TwoFactors d) where
@@ -19,7 +19,7 @@ module _ (d : List ℕ) (two : TwoFactors d) where
   q = quarters d two
 
   -- a half of the cells, with a good list in its front
-  half-good : (p s : List ℕ) → length p ≡ length d / 2 → take (length d / 4) p ≡ s → Symbols s → HalfReady p
+  half-good : (p s : List ℕ) → length p ≡ length d / 2 → take (length d / 4) p ≡ s → Symbols s → SymbolsInFront p
   half-good p s long front small = (
     size ∙ sym (ap sizeOf size ∙ size-of-power (suc (q .k)) (omega (arith, q .few))),
     omega (arith, q .half, pow-pos (q .k)),
@@ -40,14 +40,14 @@ module _ (d : List ℕ) (two : TwoFactors d) where
   pub first-length : length first ≡ length d / 2
   first-length = length-take-le (length d / 2 - 0) d (omega arith) ∙ omega arith
 
-  first-left : take (length d / 4) first ≡ left d
-  first-left = take-take (length d / 4) (length d / 2 - 0) d (omega (arith, q .half, q .quarter))
+  first-factor-read : take (length d / 4) first ≡ firstFactor d
+  first-factor-read = take-take (length d / 4) (length d / 2 - 0) d (omega (arith, q .half, q .quarter))
 
-  pub first-good : HalfReady first
-  first-good = half-good first (left d) first-length first-left (two .first)
+  pub first-good : SymbolsInFront first
+  first-good = half-good first (firstFactor d) first-length first-factor-read (two .first)
 
-  pub first-front : take (length first / 2) first ≡ left d
-  first-front = front-of first (left d) first-length first-left
+  pub first-front : take (length first / 2) first ≡ firstFactor d
+  first-front = front-of first (firstFactor d) first-length first-factor-read
 
   module _ (e : List ℕ) (long : length e ≡ length first) where
     -- the cells after the first call, and what the second is lent
@@ -76,14 +76,14 @@ module _ (d : List ℕ) (two : TwoFactors d) where
     pub second-length : length second ≡ length d / 2
     second-length = ap length second-is ∙ length-drop (length d / 2) d ∙ omega (arith, q .half, q .whole)
 
-    second-right : take (length d / 4) second ≡ right d
-    second-right = ap (take (length d / 4)) second-is
+    second-factor-read : take (length d / 4) second ≡ secondFactor d
+    second-factor-read = ap (take (length d / 4)) second-is
 
-    pub second-good : HalfReady second
-    second-good = half-good second (right d) second-length second-right (two .second)
+    pub second-good : SymbolsInFront second
+    second-good = half-good second (secondFactor d) second-length second-factor-read (two .second)
 
-    pub second-front : take (length second / 2) second ≡ right d
-    second-front = front-of second (right d) second-length second-right
+    pub second-front : take (length second / 2) second ≡ secondFactor d
+    second-front = front-of second (secondFactor d) second-length second-factor-read
 
     module _ (o : List ℕ) (long' : length o ≡ length second) where
       -- the cells after the second call

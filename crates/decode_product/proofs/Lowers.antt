@@ -20,7 +20,7 @@ use Rattle.poly.proofs.Products.{vanishing-append, vanishing-length, vanishing-
 use Rattle.poly.proofs.Tab.{tab-length, with-last}
 use Rattle.poly.proofs.Values.{value-append}
 use Rattle.decode_product.specs.Factors.{lowersOf, monicTimes}
-use Rattle.decode_product.proofs.Times.{times-settled}
+use Rattle.decode_product.proofs.Times.{times-determined}
 
 pub lowers-length : (zs : List ℕ) → length (lowersOf zs) ≡ length zs
 unfolding lowersOf
@@ -49,7 +49,7 @@ apart n h = distinct-tab n (λ i. i) (λ i j l m same. omega (arith, reduced sam
 
 pub lowers-append : (zs ws : List ℕ) → length zs + length ws ≤ 65537 → lowersOf (zs ++ ws) ≡ monicTimes (lowersOf zs) (lowersOf ws)
 lowers-append zs ws few =
-    times-settled (lowersOf zs) (lowersOf ws) (lowersOf (zs ++ ws)) (tab n (λ i. i))
+    times-determined (lowersOf zs) (lowersOf ws) (lowersOf (zs ++ ws)) (tab n (λ i. i))
     (lowers-length (zs ++ ws) ∙ length-append zs ws ∙ sym (omega (arith, lowers-length zs, lowers-length ws)))
     (tab-length n _)
     (apart n (omega (arith, lowers-length (zs ++ ws), length-append zs ws)))

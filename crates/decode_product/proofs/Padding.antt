@@ -15,24 +15,24 @@ use Rattle.poly.specs.Value.{value}
 use Rattle.poly.proofs.Every.{every-replicate}
 use Rattle.poly.proofs.Symbols.{append-symbols, symbols-at}
 use Rattle.poly.proofs.Values.{value-append, value-zeros}
-use Rattle.transform_halving.specs.Ready.{Ready}
-use Rattle.decode_product.specs.Factors.{padded}
-use Rattle.decode_product.specs.Halves.{HalfReady}
+use Rattle.transform_halving.specs.Transformable.{Transformable}
+use Rattle.decode_product.specs.Factors.{paddedMonic}
+use Rattle.decode_product.specs.Halves.{SymbolsInFront}
 use Rattle.decode_product.proofs.Quarters.{even-of}
 
-pub padded-length : (a : List ℕ) → 0 < length a → length (padded a) ≡ length a + length a
+pub padded-length : (a : List ℕ) → 0 < length a → length (paddedMonic a) ≡ length a + length a
 padded-length a some = length-append a _ ∙ omega (arith, length-replicate {A = ℕ} (length a - 1) 0)
 
-padded-symbols : (a : List ℕ) → Symbols a → Symbols (padded a)
+padded-symbols : (a : List ℕ) → Symbols a → Symbols (paddedMonic a)
 unfolding Every
 padded-symbols a small =
     append-symbols a _ small (symbols-at (1 ∷ replicate (length a - 1) 0) (lit< tt, every-replicate (_< 65537) (length a - 1) 0 (lit< tt)))
 
-pub padded-value : (a : List ℕ) (x : ℕ) → value (padded a) x ≡ value a x + x ^ length a
+pub padded-value : (a : List ℕ) (x : ℕ) → value (paddedMonic a) x ≡ value a x + x ^ length a
 unfolding value
 padded-value a x = value-append a _ x ∙ rw value-zeros (omega arith)
 
-module _ (d : List ℕ) (good : HalfReady d) where
+module _ (d : List ℕ) (good : SymbolsInFront d) where
   half : ℕ
   half = length d / 2
 
@@ -43,13 +43,13 @@ module _ (d : List ℕ) (good : HalfReady d) where
   front-length : length (take half d) ≡ half
   front-length = length-take-le half d (omega (arith, even))
 
-  pub whole-length : length (padded (take (length d / 2) d)) ≡ length d
+  pub whole-length : length (paddedMonic (take (length d / 2) d)) ≡ length d
   unfolding half
   whole-length = padded-length (take half d) (omega (arith, front-length, even, good .1)) ∙ omega (arith, front-length, even)
 
-  pub padded-ready : Ready (padded (take (length d / 2) d))
+  pub padded-transformable : Transformable (paddedMonic (take (length d / 2) d))
   unfolding half
-  padded-ready =
+  padded-transformable =
       record {
         size = whole-length ∙ good .0 ∙ ap sizeOf (sym whole-length);
         symbols = padded-symbols (take half d) (good .2);
@@ -57,7 +57,7 @@ module _ (d : List ℕ) (good : HalfReady d) where
 
   -- the cells behind the list cleared, and 1 written to the first of them
   pub padded-in-place : (e : List ℕ) → e ≡ replicate (length (take (length d - length d / 2) (drop (length d / 2) d))) 0
-      → set (take (length d / 2) d ++ (e ++ drop (length d - length d / 2) (drop (length d / 2) d))) (length d / 2) 1 ≡ padded (take (length d / 2) d)
+      → set (take (length d / 2) d ++ (e ++ drop (length d - length d / 2) (drop (length d / 2) d))) (length d / 2) 1 ≡ paddedMonic (take (length d / 2) d)
   unfolding half
   padded-in-place e is =
       ap (λ (s : List ℕ). set (take half d ++ s) half 1)

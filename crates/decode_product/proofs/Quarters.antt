@@ -9,7 +9,7 @@ use lib.ListN.{length, getD, drop, length-drop}
 use lib.Seq.{length-take-le, getD-take, getD-drop}
 use Rattle.field.specs.Size.{levelOf, sizeOf}
 use Rattle.field.proofs.Sizes.{level-le, size-power}
-use Rattle.decode_product.specs.Halves.{TwoFactors, left, right}
+use Rattle.decode_product.specs.Halves.{TwoFactors, firstFactor, secondFactor}
 
 pub record Quarters (d : List ℕ) : Type 0 where
   pub k : ℕ
@@ -48,21 +48,21 @@ module _ (d : List ℕ) (two : TwoFactors d) where
   pub quarters : Quarters d
   quarters = quarters-of d (two .size) (two .many)
 
-  pub left-length : length (left d) ≡ length d / 4
-  left-length = length-take-le (length d / 4) d (omega arith)
+  pub first-factor-length : length (firstFactor d) ≡ length d / 4
+  first-factor-length = length-take-le (length d / 4) d (omega arith)
 
-  pub right-length : length (right d) ≡ length d / 4
-  right-length = length-take-le (length d / 4) (drop (length d / 2) d) (omega (arith, length-drop (length d / 2) d))
+  pub second-factor-length : length (secondFactor d) ≡ length d / 4
+  second-factor-length = length-take-le (length d / 4) (drop (length d / 2) d) (omega (arith, length-drop (length d / 2) d))
 
   module _ (i : ℕ) (h : i < length d / 4) where
-    pub left-at : getD d i 0 ≡ getD (left d) i 0
-    left-at = sym (getD-take (length d / 4) d i 0 h)
+    pub first-factor-at : getD d i 0 ≡ getD (firstFactor d) i 0
+    first-factor-at = sym (getD-take (length d / 4) d i 0 h)
 
-    pub right-at : getD d (length d / 2 + i) 0 ≡ getD (right d) i 0
-    right-at = sym (getD-take (length d / 4) (drop (length d / 2) d) i 0 h ∙ getD-drop (length d / 2) d i 0)
+    pub second-factor-at : getD d (length d / 2 + i) 0 ≡ getD (secondFactor d) i 0
+    second-factor-at = sym (getD-take (length d / 4) (drop (length d / 2) d) i 0 h ∙ getD-drop (length d / 2) d i 0)
 
-    pub left-small : getD d i 0 < 65537
-    left-small = rw left-at (two .first i (omega (arith, left-length)))
+    pub first-factor-small : getD d i 0 < 65537
+    first-factor-small = rw first-factor-at (two .first i (omega (arith, first-factor-length)))
 
-    pub right-small : getD d (length d / 2 + i) 0 < 65537
-    right-small = rw right-at (two .second i (omega (arith, right-length)))
+    pub second-factor-small : getD d (length d / 2 + i) 0 < 65537
+    second-factor-small = rw second-factor-at (two .second i (omega (arith, second-factor-length)))

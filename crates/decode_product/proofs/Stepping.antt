@@ -12,7 +12,7 @@ use Rattle.poly.specs.Raised.{raised}
 use Rattle.poly.proofs.Products.{vanishing-length, vanishing-symbols}
 use Rattle.poly.proofs.Symbols.{symbols-at}
 use Rattle.decode_product.specs.Factors.{lowersOf}
-use Rattle.decode_product.specs.Halves.{HalfReady, repeated}
+use Rattle.decode_product.specs.Halves.{SymbolsInFront, repeated}
 use Rattle.decode_product.proofs.Lowers.{lowers-whole}
 use Rattle.decode_product.proofs.Quarters.{even-of}
 use Rattle.decode_product.proofs.Repeating.{repeated-there}
@@ -33,7 +33,7 @@ pub record Stepped (d : List ℕ) (left : ℕ) (e : List ℕ) : Type 0 where
   pub points : take (length d / 2) e ≡ take (length d / 2) d
   pub done : take (length d / 2 - left) (drop (length d / 2) e) ≡ lowersOf (drop left (take (length d / 2) d))
 
-pub stepped-none : (d : List ℕ) → HalfReady d → Stepped d (length d / 2) d
+pub stepped-none : (d : List ℕ) → SymbolsInFront d → Stepped d (length d / 2) d
 stepped-none d good =
     record {
       some = omega arith;
@@ -44,7 +44,7 @@ stepped-none d good =
           ∙ sym (ap lowersOf (drop-of-length-le (take (length d / 2) d) {i = length d / 2} (omega (arith, length-take-le (length d / 2) d (omega arith)))) ∙ lowers-none);
     }
 
-module _ (d : List ℕ) (good : HalfReady d) (left : ℕ) (e : List ℕ) (t : Stepped d left e) where
+module _ (d : List ℕ) (good : SymbolsInFront d) (left : ℕ) (e : List ℕ) (t : Stepped d left e) where
   half : ℕ
   half = length d / 2
 

@@ -124,8 +124,8 @@ times-value a b x =
     n = length a + length b
 
 -- as many symbols with the values of the product at as many points are its coefficients
-pub times-settled : (a b s xs : List ℕ) → length s ≡ length a + length b → length xs ≡ length s → Distinct xs → Every (_< 65537) s
+pub times-determined : (a b s xs : List ℕ) → length s ≡ length a + length b → length xs ≡ length s → Distinct xs → Every (_< 65537) s
     → Every (λ x. value s x + x ^ length s ≈ (value a x + x ^ length a) * (value b x + x ^ length b)) xs → s ≡ monicTimes a b
-times-settled a b s xs long many apart small same =
+times-determined a b s xs long many apart small same =
     unique xs s (monicTimes a b) (sym many) (times-length a b ∙ sym long ∙ sym many) apart small (times-symbols a b)
     (every-map (λ x h. comb (h +≈ ≈-sym (times-value a b x)) 0 0 (omega (arith, ap (x ^_) long))) xs same)

@@ -10,17 +10,17 @@ use lib.Seq.{length-take-le, length-front, take-at, take-set-lt, getD-append-add
 use Rattle.field.specs.Field.{difference, product}
 use Rattle.poly.specs.Tab.{tab}
 use Rattle.poly.proofs.Tab.{tab-ext}
-use Rattle.transform_halving.specs.Ready.{Ready}
+use Rattle.transform_halving.specs.Transformable.{Transformable}
 use Rattle.transform_halving.specs.Transform.{transformOf, inverseOf}
 use Rattle.transform_halving.proofs.Theorems.{transform-symbols}
-use Rattle.decode_product.specs.Factors.{monicTimes, padded}
-use Rattle.decode_product.specs.Halves.{TwoFactors, left, right}
+use Rattle.decode_product.specs.Factors.{monicTimes, paddedMonic}
+use Rattle.decode_product.specs.Halves.{TwoFactors, firstFactor, secondFactor}
 use Rattle.decode_product.proofs.Lending.{first, second, after, first-length, first-front, second-front, after-is, after-length}
-use Rattle.decode_product.proofs.Quarters.{Quarters, quarters, left-length, right-length}
-use Rattle.decode_product.proofs.Wrapping.{products, products-ready, unwrapped}
+use Rattle.decode_product.proofs.Quarters.{Quarters, quarters, first-factor-length, second-factor-length}
+use Rattle.decode_product.proofs.Wrapping.{products, products-transformable, unwrapped}
 
 -- e and o are what the first and the second call leave
-module _ (d : List ℕ) (two : TwoFactors d) (e : List ℕ) (long : length e ≡ length (first d two)) (done : e ≡ transformOf (padded (take (length (first d two) / 2) (first d two)))) (o : List ℕ) (long' : length o ≡ length (second d two e long)) (done' : o ≡ transformOf (padded (take (length (second d two e long) / 2) (second d two e long)))) where
+module _ (d : List ℕ) (two : TwoFactors d) (e : List ℕ) (long : length e ≡ length (first d two)) (done : e ≡ transformOf (paddedMonic (take (length (first d two) / 2) (first d two)))) (o : List ℕ) (long' : length o ≡ length (second d two e long)) (done' : o ≡ transformOf (paddedMonic (take (length (second d two e long) / 2) (second d two e long)))) where
   q : Quarters d
   q = quarters d two
 
@@ -30,14 +30,14 @@ module _ (d : List ℕ) (two : TwoFactors d) (e : List ℕ) (long : length e ≡
   abbrev both : List ℕ
   both = after d two e long o long'
 
-  left-long : length (left d) ≡ 2 ^ q .k
-  left-long = left-length d two ∙ q .quarter
+  first-factor-long : length (firstFactor d) ≡ 2 ^ q .k
+  first-factor-long = first-factor-length d two ∙ q .quarter
 
-  right-long : length (right d) ≡ 2 ^ q .k
-  right-long = right-length d two ∙ q .quarter
+  second-factor-long : length (secondFactor d) ≡ 2 ^ q .k
+  second-factor-long = second-factor-length d two ∙ q .quarter
 
   values : List ℕ
-  values = products (q .k) few (left d) (right d) left-long right-long
+  values = products (q .k) few (firstFactor d) (secondFactor d) first-factor-long second-factor-long
 
   pub both-even : length (after d two e long o long') % 2 ≡ 0
   both-even = omega (arith, after-length d two e long o long', q .whole)
@@ -58,21 +58,21 @@ module _ (d : List ℕ) (two : TwoFactors d) (e : List ℕ) (long : length e ≡
         e-long : length e ≡ 2 ^ suc (q .k)
         e-long = omega (arith, long, first-length d two, q .half)
 
-        front : (i : ℕ) → i < 2 ^ suc (q .k) → getD both i 0 ≡ getD (transformOf (padded (left d))) i 0
+        front : (i : ℕ) → i < 2 ^ suc (q .k) → getD both i 0 ≡ getD (transformOf (paddedMonic (firstFactor d))) i 0
         front i h =
             ap (λ (l : List ℕ). getD l i 0) (after-is d two e long o long')
             ∙ List·getD-append e o 0 i (omega (arith, e-long))
-            ∙ ap (λ (l : List ℕ). getD l i 0) (done ∙ ap (λ (l : List ℕ). transformOf (padded l)) (first-front d two))
+            ∙ ap (λ (l : List ℕ). getD l i 0) (done ∙ ap (λ (l : List ℕ). transformOf (paddedMonic l)) (first-front d two))
 
-        behind : (i : ℕ) → i < 2 ^ suc (q .k) → getD both (2 ^ suc (q .k) + i) 0 ≡ getD (transformOf (padded (right d))) i 0
+        behind : (i : ℕ) → i < 2 ^ suc (q .k) → getD both (2 ^ suc (q .k) + i) 0 ≡ getD (transformOf (paddedMonic (secondFactor d))) i 0
         behind i h =
             ap₂ (λ (l : List ℕ) (n : ℕ). getD l (n + i) 0) (after-is d two e long o long') (sym e-long)
             ∙ getD-append-add e o i 0
-            ∙ ap (λ (l : List ℕ). getD l i 0) (done' ∙ ap (λ (l : List ℕ). transformOf (padded l)) (second-front d two e long))
+            ∙ ap (λ (l : List ℕ). getD l i 0) (done' ∙ ap (λ (l : List ℕ). transformOf (paddedMonic l)) (second-front d two e long))
 
-    pub values-ready : Ready (take (length d / 2 - 0) f)
+    pub values-transformable : Transformable (take (length d / 2 - 0) f)
     unfolding values
-    values-ready = subst Ready (sym values-are) (products-ready (q .k) few (left d) (right d) left-long right-long)
+    values-transformable = subst Transformable (sym values-are) (products-transformable (q .k) few (firstFactor d) (secondFactor d) first-factor-long second-factor-long)
 
     -- g is what the inverse leaves
     module _ (g : List ℕ) (same : length g ≡ length (take (length d / 2 - 0) f)) (back : g ≡ inverseOf (take (length d / 2 - 0) f)) where
@@ -89,12 +89,12 @@ module _ (d : List ℕ) (two : TwoFactors d) (e : List ℕ) (long : length e ≡
       first-small = rw (first-is, back) (transform-symbols (take (length d / 2 - 0) f) .3 0 (rw back at some))
 
       pub product-there : (v : ℕ) → v ≡ difference (getD (g ++ drop (length d / 2 - 0) f) 0 0) 1
-          → take (length d / 2) (set (g ++ drop (length d / 2 - 0) f) 0 v) ≡ monicTimes (left d) (right d)
+          → take (length d / 2) (set (g ++ drop (length d / 2 - 0) f) 0 v) ≡ monicTimes (firstFactor d) (secondFactor d)
       unfolding values
       product-there v less =
           take-set-lt (length d / 2) (g ++ drop (length d / 2 - 0) f) 0 v (omega (arith, some, g-long))
           ∙ ap₂ (λ (l : List ℕ) (x : ℕ). set l 0 x) (take-at g _ (length d / 2) g-long) (less ∙ ap (λ (x : ℕ). difference x 1) first-is)
-          ∙ unwrapped (q .k) few (left d) (right d) left-long right-long g (back ∙ ap inverseOf values-are)
+          ∙ unwrapped (q .k) few (firstFactor d) (secondFactor d) first-factor-long second-factor-long g (back ∙ ap inverseOf values-are)
 
       pub product-length : (v : ℕ) → length (set (g ++ drop (length d / 2 - 0) f) 0 v) ≡ length d
       product-length v =

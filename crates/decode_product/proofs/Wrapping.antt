@@ -25,15 +25,15 @@ use Rattle.poly.proofs.Distinct.{distinct-tab}
 use Rattle.poly.proofs.Every.{every-tab}
 use Rattle.poly.proofs.Symbols.{set-symbols, symbols-every, tab-symbols}
 use Rattle.poly.proofs.Tab.{tab-length, tab-at}
-use Rattle.transform_halving.specs.Ready.{Ready}
+use Rattle.transform_halving.specs.Transformable.{Transformable}
 use Rattle.transform_halving.specs.Transform.{transformOf, inverseOf}
-use Rattle.transform_halving.proofs.Ready.{ready-of}
+use Rattle.transform_halving.proofs.Transformable.{transformable-of}
 use Rattle.transform_halving.proofs.Sums.{values-at}
 use Rattle.transform_halving.proofs.Theorems.{transform-symbols}
 use Rattle.transform_halving.proofs.Undo.{transform-values, transform-undoes, inverse-length}
-use Rattle.decode_product.specs.Factors.{monicTimes, padded}
+use Rattle.decode_product.specs.Factors.{monicTimes, paddedMonic}
 use Rattle.decode_product.proofs.Padding.{padded-length, padded-value}
-use Rattle.decode_product.proofs.Times.{times-settled}
+use Rattle.decode_product.proofs.Times.{times-determined}
 
 -- the lowest coefficient changed
 first-changed : (s : List ℕ) (v x : ℕ) → 0 < length s → value (set s 0 v) x + getD s 0 0 ≡ value s x + v
@@ -77,11 +77,11 @@ module _ (k : ℕ) (few : suc k ≤ 16) where
   module _ (a b : List ℕ) (long-a : length a ≡ 2 ^ k) (long-b : length b ≡ 2 ^ k) where
     -- the values of the product at the roots
     unfoldable pub products : List ℕ
-    products = tab (2 ^ suc k) (λ j. product (getD (transformOf (padded a)) j 0) (getD (transformOf (padded b)) j 0))
+    products = tab (2 ^ suc k) (λ j. product (getD (transformOf (paddedMonic a)) j 0) (getD (transformOf (paddedMonic b)) j 0))
 
-    pub products-ready : Ready products
+    pub products-transformable : Transformable products
     unfolding products
-    products-ready = ready-of (suc k) few products (tab-length (2 ^ suc k) _) (tab-symbols (2 ^ suc k) _ (λ j h. product-lt _ _))
+    products-transformable = transformable-of (suc k) few products (tab-length (2 ^ suc k) _) (tab-symbols (2 ^ suc k) _ (λ j h. product-lt _ _))
 
     back : List ℕ
     back = inverseOf products
@@ -94,19 +94,19 @@ module _ (k : ℕ) (few : suc k ≤ 16) where
     unfolding back products n
     value-back j h =
         ≈-sym (value-there back back-length j h)
-        ∘≈ ≈-of (ap (λ (l : List ℕ). getD l j 0) (transform-undoes products products-ready) ∙ tab-at n _ j h)
+        ∘≈ ≈-of (ap (λ (l : List ℕ). getD l j 0) (transform-undoes products products-transformable) ∙ tab-at n _ j h)
         ∘≈ product-≈ _ _
         ∘≈ mul-≈ (factor a long-a) (factor b long-b)
       where
-        factor : (s : List ℕ) → length s ≡ 2 ^ k → getD (transformOf (padded s)) j 0 ≈ value s (r ^ j) + (r ^ j) ^ length s
+        factor : (s : List ℕ) → length s ≡ 2 ^ k → getD (transformOf (paddedMonic s)) j 0 ≈ value s (r ^ j) + (r ^ j) ^ length s
         factor s long =
-            value-there (padded s) (padded-length s (omega (arith, pow-pos k)) ∙ omega (arith, twice)) j h ∘≈ ≈-of (padded-value s (r ^ j))
+            value-there (paddedMonic s) (padded-length s (omega (arith, pow-pos k)) ∙ omega (arith, twice)) j h ∘≈ ≈-of (padded-value s (r ^ j))
 
     pub unwrapped : (t : List ℕ) → t ≡ inverseOf products → set t 0 (difference (getD t 0 0) 1) ≡ monicTimes a b
     unfolding back n
     unwrapped t is =
         ap (λ (s : List ℕ). set s 0 (difference (getD s 0 0) 1)) is
-        ∙ times-settled a b changed (tab n (λ j. r ^ j)) (long ∙ omega (arith, twice)) (tab-length n _ ∙ sym long) apart
+        ∙ times-determined a b changed (tab n (λ j. r ^ j)) (long ∙ omega (arith, twice)) (tab-length n _ ∙ sym long) apart
         (symbols-every changed (set-symbols back 0 _ (transform-symbols products .3) (difference-lt _ 1)))
         (every-tab _ n _ (λ j h. rw long
         (comb (value-back j h +≈ full j +≈ difference-≈ (getD back 0 0) 1) 0 1

@@ -29,5 +29,5 @@ unfoldable pub monicTimes : List ℕ → List ℕ → List ℕ
 monicTimes a b = tab (length a + length b) (coefficient a b)
 
 -- with the highest coefficient, and zeros behind it up to twice the length
-abbrev pub padded : List ℕ → List ℕ
-padded a = a ++ (1 ∷ replicate (length a - 1) 0)
+abbrev pub paddedMonic : List ℕ → List ℕ
+paddedMonic a = a ++ (1 ∷ replicate (length a - 1) 0)

@@ -7,21 +7,21 @@ use Rattle.field.specs.Size.{sizeOf}
 use Rattle.field.specs.Symbol.{Symbols}
 
 -- a power of two of cells, with symbols in the front half
-abbrev pub HalfReady : List ℕ → Type 0
-HalfReady d = (length d ≡ sizeOf (length d)) × (2 ≤ length d) × Symbols (take (length d / 2) d)
+abbrev pub SymbolsInFront : List ℕ → Type 0
+SymbolsInFront d = (length d ≡ sizeOf (length d)) × (2 ≤ length d) × Symbols (take (length d / 2) d)
 
 -- the lists at the front of each half
-abbrev pub left : List ℕ → List ℕ
-left d = take (length d / 4) d
+abbrev pub firstFactor : List ℕ → List ℕ
+firstFactor d = take (length d / 4) d
 
-abbrev pub right : List ℕ → List ℕ
-right d = take (length d / 4) (drop (length d / 2) d)
+abbrev pub secondFactor : List ℕ → List ℕ
+secondFactor d = take (length d / 4) (drop (length d / 2) d)
 
 pub record TwoFactors (d : List ℕ) : Type 0 where
   pub size : length d ≡ sizeOf (length d)
   pub many : 4 ≤ length d
-  pub first : Symbols (left d)
-  pub second : Symbols (right d)
+  pub first : Symbols (firstFactor d)
+  pub second : Symbols (secondFactor d)
 
 -- n numbers stand at another place too
 abbrev pub repeated : ℕ → ℕ → ℕ → List ℕ → List ℕ

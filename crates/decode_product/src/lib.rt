@@ -11,7 +11,7 @@ ghost use mathlib.Core.Path.{_≡_};
 ghost use Prim.Native.Nat.{_/_};
 ghost use lib.ListN.{length, take};
 ghost use Rattle.decode_product.specs.Factors.{lowersOf, monicTimes};
-ghost use Rattle.decode_product.specs.Halves.{HalfReady, TwoFactors, left, right};
+ghost use Rattle.decode_product.specs.Halves.{SymbolsInFront, TwoFactors, firstFactor, secondFactor};
 
 // Up to so many points one factor at a time takes fewer instructions than halves that are multiplied.
 const FEW: usize = 8;
@@ -21,7 +21,7 @@ const LONG: usize = 512;
 
 fn multiply(cells: &mut [u32])
     requires { ⌜ TwoFactors (now cells) ⌝ }
-    ensures { λ _. ⌜ take (length (now (cells .entry)) / 2) (now (cells .exit)) ≡ monicTimes (left (now (cells .entry))) (right (now (cells .entry))) ⌝ }
+    ensures { λ _. ⌜ take (length (now (cells .entry)) / 2) (now (cells .exit)) ≡ monicTimes (firstFactor (now (cells .entry))) (secondFactor (now (cells .entry))) ⌝ }
 {
     if cells.len() / 4 < LONG {
         crate::sums::multiply(cells);
@@ -32,7 +32,7 @@ fn multiply(cells: &mut [u32])
 
 // The product over S points that stand at the front of 2S cells, in their place: its S coefficients below the highest. The other S cells are room.
 pub fn multiply_out(cells: &mut [u32])
-    requires { ⌜ HalfReady (now cells) ⌝ }
+    requires { ⌜ SymbolsInFront (now cells) ⌝ }
     ensures { λ _. ⌜ take (length (now (cells .entry)) / 2) (now (cells .exit)) ≡ lowersOf (take (length (now (cells .entry)) / 2) (now (cells .entry))) ⌝ }
 {
     if cells.len() / 2 <= FEW {

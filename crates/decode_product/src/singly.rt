@@ -8,7 +8,7 @@ ghost use lib.ListN.{length, take};
 ghost use Rattle.field.specs.Symbol.{Symbols};
 ghost use Rattle.poly.specs.Raised.{raised};
 ghost use Rattle.decode_product.specs.Factors.{lowersOf};
-ghost use Rattle.decode_product.specs.Halves.{HalfReady};
+ghost use Rattle.decode_product.specs.Halves.{SymbolsInFront};
 
 // (X - x) · L in place of L, without the highest coefficient, which is L's.
 fn raise(cells: &mut [u32], x: u32)
@@ -27,7 +27,7 @@ fn raise(cells: &mut [u32], x: u32)
 
 // In the room, from the last point down; the 1 written before a step is the highest coefficient.
 pub fn multiply_few(cells: &mut [u32])
-    requires { ⌜ HalfReady (now cells) ⌝ }
+    requires { ⌜ SymbolsInFront (now cells) ⌝ }
     ensures { λ _. ⌜ take (length (now (cells .entry)) / 2) (now (cells .exit)) ≡ lowersOf (take (length (now (cells .entry)) / 2) (now (cells .entry))) ⌝ }
 {
     let half = cells.len() / 2;

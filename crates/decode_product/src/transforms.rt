@@ -11,13 +11,13 @@ ghost use lib.ListN.{length, take, getD};
 ghost use Rattle.field.specs.Field.{product};
 ghost use Rattle.poly.specs.Tab.{tab};
 ghost use Rattle.transform_halving.specs.Transform.{transformOf};
-ghost use Rattle.decode_product.specs.Factors.{monicTimes, padded};
-ghost use Rattle.decode_product.specs.Halves.{HalfReady, TwoFactors, left, right};
+ghost use Rattle.decode_product.specs.Factors.{monicTimes, paddedMonic};
+ghost use Rattle.decode_product.specs.Halves.{SymbolsInFront, TwoFactors, firstFactor, secondFactor};
 
 // The list in the front half, its highest coefficient 1 behind it and zeros up to the end, transformed.
 fn transform_whole(cells: &mut [u32])
-    requires { ⌜ HalfReady (now cells) ⌝ }
-    ensures { λ _. ⌜ now (cells .exit) ≡ transformOf (padded (take (length (now (cells .entry)) / 2) (now (cells .entry)))) ⌝ }
+    requires { ⌜ SymbolsInFront (now cells) ⌝ }
+    ensures { λ _. ⌜ now (cells .exit) ≡ transformOf (paddedMonic (take (length (now (cells .entry)) / 2) (now (cells .entry)))) ⌝ }
 {
     let half = cells.len() / 2;
     clear(&mut cells[half..]);
@@ -40,7 +40,7 @@ fn multiply_values(cells: &mut [u32])
 // The highest power of X is 1 at each of the roots, so that the highest coefficient comes back as a 1 too much in the lowest.
 pub fn multiply(cells: &mut [u32])
     requires { ⌜ TwoFactors (now cells) ⌝ }
-    ensures { λ _. ⌜ take (length (now (cells .entry)) / 2) (now (cells .exit)) ≡ monicTimes (left (now (cells .entry))) (right (now (cells .entry))) ⌝ }
+    ensures { λ _. ⌜ take (length (now (cells .entry)) / 2) (now (cells .exit)) ≡ monicTimes (firstFactor (now (cells .entry))) (secondFactor (now (cells .entry))) ⌝ }
 {
     let half = cells.len() / 2;
     transform_whole(&mut cells[0..half]);

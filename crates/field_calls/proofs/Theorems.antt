@@ -2,26 +2,26 @@
 -- Assumes nothing.
 use mathlib.Core.Path.{sym, _∙_}
 use Rattle.answers.specs.Refusals.{Answer}
-use Rattle.field_calls.specs.Theorems.{Settled, SumSettled, DifferenceSettled, ProductSettled, PowerSettled, InverseSettled, PointSettled}
+use Rattle.field_calls.specs.Theorems.{SymbolAnswerSettled, SumSettled, DifferenceSettled, ProductSettled, PowerSettled, InverseSettled, PointSettled}
 use Rattle.field_calls.proofs.Settling.{told-one, told-point-one}
 
-settled : (t : Answer) → Settled t
-settled t r s p q = told-one r s (p ∙ sym q)
+symbol-answer-settled : (t : Answer) → SymbolAnswerSettled t
+symbol-answer-settled t r s p q = told-one r s (p ∙ sym q)
 
 pub sum-settled : SumSettled
-sum-settled a b = settled _
+sum-settled a b = symbol-answer-settled _
 
 pub difference-settled : DifferenceSettled
-difference-settled a b = settled _
+difference-settled a b = symbol-answer-settled _
 
 pub product-settled : ProductSettled
-product-settled a b = settled _
+product-settled a b = symbol-answer-settled _
 
 pub power-settled : PowerSettled
-power-settled x n = settled _
+power-settled x n = symbol-answer-settled _
 
 pub inverse-settled : InverseSettled
-inverse-settled x = settled _
+inverse-settled x = symbol-answer-settled _
 
 pub point-settled : PointSettled
 point-settled n i r s p q = told-point-one r s (p ∙ sym q)

@@ -9,23 +9,23 @@ use Rattle.field_calls.specs.declared.operations.SymbolAnswer.{SymbolAns
 use Rattle.field_calls.specs.declared.points.PointAnswer.{PointAnswer}
 
 -- two answers that tell the same are equal
-abbrev pub Settled : Answer → Type 0
-Settled t = (r s : SymbolAnswer) → told r ≡ t → told s ≡ t → r ≡ s
+abbrev pub SymbolAnswerSettled : Answer → Type 0
+SymbolAnswerSettled t = (r s : SymbolAnswer) → told r ≡ t → told s ≡ t → r ≡ s
 
 abbrev pub SumSettled : Type 0
-SumSettled = (a b : ℕ) → Settled (sumAnswer a b)
+SumSettled = (a b : ℕ) → SymbolAnswerSettled (sumAnswer a b)
 
 abbrev pub DifferenceSettled : Type 0
-DifferenceSettled = (a b : ℕ) → Settled (differenceAnswer a b)
+DifferenceSettled = (a b : ℕ) → SymbolAnswerSettled (differenceAnswer a b)
 
 abbrev pub ProductSettled : Type 0
-ProductSettled = (a b : ℕ) → Settled (productAnswer a b)
+ProductSettled = (a b : ℕ) → SymbolAnswerSettled (productAnswer a b)
 
 abbrev pub PowerSettled : Type 0
-PowerSettled = (x e : ℕ) → Settled (powerAnswer x e)
+PowerSettled = (x e : ℕ) → SymbolAnswerSettled (powerAnswer x e)
 
 abbrev pub InverseSettled : Type 0
-InverseSettled = (x : ℕ) → Settled (inverseAnswer x)
+InverseSettled = (x : ℕ) → SymbolAnswerSettled (inverseAnswer x)
 
 abbrev pub PointSettled : Type 0
 PointSettled = (n i : ℕ) (r s : PointAnswer) → toldPoint r ≡ pointAnswer n i → toldPoint s ≡ pointAnswer n i → r ≡ s

@@ -13,7 +13,7 @@ use Rattle.answers.specs.First.{first}
 use Rattle.answers.proofs.First.{first-le, first-before, first-holds}
 use Rattle.io.specs.Digits.{digits, glyph}
 use Rattle.listing_lines.specs.Text.{places, decimal}
-use Rattle.listing_lines.specs.Theorems.{Reads, nothing, further, DecimalValue}
+use Rattle.listing_lines.specs.Theorems.{ReadsBack, nothing, further, DecimalValue}
 
 glyph-is : (n : ℕ) → glyph (n % 10) ≡ 48 + n % 10
 glyph-is n = rw (lt-ltb (n % 10) 10 (mod-lt n (omega arith))) refl
@@ -25,11 +25,11 @@ count (suc k) n = omega (arith, length-append (digits 10 k (n / 10)) (glyph (n %
 tenth-below : (k n : ℕ) → n < 10 ^ suc k → n / 10 < 10 ^ k
 tenth-below k n h = div-lt-iff-lt-mul {k = 10} {x = n} {y = 10 ^ k} (omega arith) .1 (omega (arith, pow-suc 10 k))
 
-digits-read : (k n : ℕ) → n < 10 ^ k → Reads (digits 10 k n) n
-digits-read zero n h = subst (Reads []) {x = 0} {y = n} (omega arith) nothing
+digits-read : (k n : ℕ) → n < 10 ^ k → ReadsBack (digits 10 k n) n
+digits-read zero n h = subst (ReadsBack []) {x = 0} {y = n} (omega arith) nothing
 digits-read (suc k) n h =
-    subst (λ (c : ℕ). Reads (digits 10 k (n / 10) ++ (c ∷ [])) n) (sym (glyph-is n))
-    (subst (Reads (digits 10 k (n / 10) ++ ((48 + n % 10) ∷ []))) {x = 10 * (n / 10) + n % 10} {y = n} (omega (arith, div-add-mod' n 10))
+    subst (λ (c : ℕ). ReadsBack (digits 10 k (n / 10) ++ (c ∷ [])) n) (sym (glyph-is n))
+    (subst (ReadsBack (digits 10 k (n / 10) ++ ((48 + n % 10) ∷ []))) {x = 10 * (n / 10) + n % 10} {y = n} (omega (arith, div-add-mod' n 10))
     (further (n % 10) (mod-lt n (omega arith)) (digits-read k (n / 10) (tenth-below k n h))))
 
 -- a number of suc k digits that is not below 10 to the power k

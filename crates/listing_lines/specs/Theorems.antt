@@ -6,13 +6,13 @@ use lib.ListN.{length, getD}
 use Rattle.listing_lines.specs.Text.{ascii, decimal}
 
 -- text that is read as a number in base 10: all digits, `0` being character 48; one more makes ten times the number, and that digit
-pub data Reads : List ℕ → ℕ → Type 0 where
-  nothing : Reads [] 0
-  further : {text : List ℕ} {n : ℕ} (d : ℕ) → d < 10 → Reads text n → Reads (text ++ ((48 + d) ∷ [])) (10 * n + d)
+pub data ReadsBack : List ℕ → ℕ → Type 0 where
+  nothing : ReadsBack [] 0
+  further : {text : List ℕ} {n : ℕ} (d : ℕ) → d < 10 → ReadsBack text n → ReadsBack (text ++ ((48 + d) ∷ [])) (10 * n + d)
 
 -- the decimal text of a number: some digits, which give the number when they are read, the first not `0` where there are more
 pub record IsDecimal (text : List ℕ) (n : ℕ) : Type 0 where
-  pub value : Reads text n
+  pub value : ReadsBack text n
   pub some : 0 < length text
   pub front : 1 < length text → ¬ (getD text 0 0 ≡ 48)
 

@@ -1,9 +1,9 @@
 // No entry points: the lines of the listing as text. Each function puts a line into lent bytes from an index on and answers where it ends; it asks
 // that there is room for the line's longest form.
-mod words;
+mod pieces;
 
-use crate::words::put_number;
-use crate::words::put_text;
+use crate::pieces::put_number;
+use crate::pieces::put_text;
 use answers::Refusal;
 ghost use mathlib.Core.List.{[]};
 ghost use Prim.Native.Nat.{_+_, _≤_};
@@ -12,7 +12,7 @@ ghost use Rattle.answers.specs.Refusals.{result, refused};
 ghost use Rattle.listing_lines.specs.Lines.{headerLine, entryLine, lastLine};
 ghost use Rattle.listing_lines.specs.Puts.{Puts};
 
-pub fn put_header(
+pub fn put_header_line(
     k: usize,
     n: usize,
     bytes: usize,
@@ -32,7 +32,13 @@ pub fn put_header(
     put_text(b"\n", out, end)
 }
 
-pub fn put_entry(position: usize, offset: usize, count: usize, out: &mut [u8], at: usize) -> usize
+pub fn put_entry_line(
+    position: usize,
+    offset: usize,
+    count: usize,
+    out: &mut [u8],
+    at: usize,
+) -> usize
     requires { ⌜ at + 63 ≤ length (now out) ⌝ }
     ensures { λ r. ⌜ Puts (entryLine position offset count) 63 at (now (out .entry)) r (now (out .exit)) ⌝ }
 {

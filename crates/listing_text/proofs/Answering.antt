@@ -9,7 +9,7 @@ use native.Mathlib.Omega.{arith}
 use borrow.Author.Tests.{lt-ltb, le-ltb, ltb-false}
 use lib.Dec.{ltb}
 use lib.ListN.{length, getD, drop, replicate, length-append}
-use Rattle.answers.specs.Leaves.{Leaves, left, written}
+use Rattle.answers.specs.Leaves.{Leaves, leaving, written}
 use Rattle.answers.specs.Refusals.{Answer, result, refusal, numberOf, refused, refuseIf, toldOutcome, after}
 use Rattle.limits.specs.Shape.{longest}
 use Rattle.field.specs.Size.{sizeOf}
@@ -182,7 +182,7 @@ alone-printed s a is e = rw (is, e) refl
 
 -- and what is left: text and work are what was lent, w what the working space holds, o the answer of the code
 module _ (s text work w : List ℕ) (m : ℕ) (same : m ≡ length work) (cleared : w ≡ replicate m 0) (o : Outcome) (answers : after (toldOutcome o) (result (lengthIn s ∷ [])) ≡ programAnswer s) where
-  leaves-text : (t new : List ℕ) {most e : ℕ} → t ≡ printed s → Puts t most 0 text e new → left (result (e ∷ [])) new w ≡ listLeaves s text work
+  leaves-text : (t new : List ℕ) {most e : ℕ} → t ≡ printed s → Puts t most 0 text e new → leaving (result (e ∷ [])) new w ≡ listLeaves s text work
   leaves-text t new is puts =
       let it = puts-written puts in
       cc (it .0, it .1, is, cleared, same)
@@ -196,7 +196,7 @@ module _ (s text work w : List ℕ) (m : ℕ) (same : m ≡ length work) (cleare
     unfolding printsAlone
     whole-good = follows-good s (ap printsAlone whole)
 
-    pub whole-leaves : (new : List ℕ) {most e : ℕ} → Puts (listing s ++ lastLine (result [])) most 0 text e new → left (result (e ∷ [])) new w ≡ listLeaves s text work
+    pub whole-leaves : (new : List ℕ) {most e : ℕ} → Puts (listing s ++ lastLine (result [])) most 0 text e new → leaving (result (e ∷ [])) new w ≡ listLeaves s text work
     unfolding printsAlone lastLine
     whole-leaves new puts = leaves-text (listing s ++ lastLine (result [])) new (follows-printed s (result (lengthIn s ∷ [])) whole refl) puts
 
@@ -212,10 +212,10 @@ module _ (s text work w : List ℕ) (m : ℕ) (same : m ≡ length work) (cleare
     pub partly-good : only ≡ false → (layoutChecks s ≡ result []) × (128 + 63 * heldIn s ≤ 16256)
     partly-good follows = follows-good s (ap printsAlone partly ∙ lone ∙ follows)
 
-    pub partly-leaves : (new : List ℕ) {most e : ℕ} → only ≡ false → Puts (listing s ++ lastLine (refused x)) most 0 text e new → left (result (e ∷ [])) new w ≡ listLeaves s text work
+    pub partly-leaves : (new : List ℕ) {most e : ℕ} → only ≡ false → Puts (listing s ++ lastLine (refused x)) most 0 text e new → leaving (result (e ∷ [])) new w ≡ listLeaves s text work
     partly-leaves new follows puts = leaves-text (listing s ++ lastLine (refused x)) new (follows-printed s (refused x) partly (lone ∙ follows)) puts
 
-    pub alone-leaves : (new : List ℕ) {most e : ℕ} → only ≡ true → Puts (lastLine (refused x)) most 0 text e new → left (result (e ∷ [])) new w ≡ listLeaves s text work
+    pub alone-leaves : (new : List ℕ) {most e : ℕ} → only ≡ true → Puts (lastLine (refused x)) most 0 text e new → leaving (result (e ∷ [])) new w ≡ listLeaves s text work
     alone-leaves new stands puts = leaves-text (lastLine (refused x)) new (alone-printed s (refused x) partly (lone ∙ stands)) puts
 
 -- the text lies inside what it is put into
@@ -224,7 +224,7 @@ abbrev pub shown : Answer → ℕ
 shown (result vs) = getD vs 0 0
 shown (refusal number place) = 0
 
-pub text-inside : (s text t w v : List ℕ) (e : ℕ) → left (result (e ∷ [])) t w ≡ left (result (length (printed s) ∷ [])) (written (printed s) text) v → e ≤ length t
+pub text-inside : (s text t w v : List ℕ) (e : ℕ) → leaving (result (e ∷ [])) t w ≡ leaving (result (length (printed s) ∷ [])) (written (printed s) text) v → e ≤ length t
 text-inside s text t w v e leaves =
     let lists = ap {A = Leaves} {B = List ℕ} (λ l. l .list) leaves in
     let answers = ap {A = Leaves} {B = ℕ} (λ l. shown (l .answer)) leaves in

@@ -2,7 +2,7 @@
 use mathlib.Core.List.{List, [], _∷_}
 use Prim.Native.Nat.{ℕ}
 use lib.ListN.{length, replicate}
-use Rattle.answers.specs.Leaves.{Leaves, left, written}
+use Rattle.answers.specs.Leaves.{Leaves, leaving, written}
 use Rattle.answers.specs.Refusals.{result}
 use Rattle.listing_text.specs.Listing.{printed}
 
@@ -11,4 +11,4 @@ unfoldable pub textRoom : ℕ
 textRoom = 16384
 
 abbrev pub listLeaves : List ℕ → List ℕ → List ℕ → Leaves
-listLeaves s text work = left (result (length (printed s) ∷ [])) (written (printed s) text) (replicate (length work) 0)
+listLeaves s text work = leaving (result (length (printed s) ∷ [])) (written (printed s) text) (replicate (length work) 0)

@@ -4,7 +4,7 @@ use mathlib.Core.List.{List, [], _∷_, _++_}
 use mathlib.Core.Logic.{_⊎_, _↔_}
 use Prim.Native.Nat.{ℕ, _*_, _<_, _≤_}
 use lib.ListN.{length}
-use Rattle.answers.specs.Leaves.{left}
+use Rattle.answers.specs.Leaves.{leaving}
 use Rattle.answers.specs.Refusals.{result, refusal, refused}
 use Rattle.answers.specs.declared.refusal.Refusal.the-variants.{Room}
 use Rattle.bundle_layout.specs.Fields.{nIn, lengthIn}
@@ -61,5 +61,5 @@ EmptyListed = printed [] ≡ ascii "REFUSED 11 0\n"
 -- two outcomes of the work are equal: where the text ends, every byte of the memory lent for it, every cell of the working space
 abbrev pub ListSettled : Type 0
 ListSettled =
-    (s text work : List ℕ) (e f : ℕ) (t u w v : List ℕ) → left (result (e ∷ [])) t w ≡ listLeaves s text work
-    → left (result (f ∷ [])) u v ≡ listLeaves s text work → (e ≡ f) × (t ≡ u) × (w ≡ v)
+    (s text work : List ℕ) (e f : ℕ) (t u w v : List ℕ) → leaving (result (e ∷ [])) t w ≡ listLeaves s text work
+    → leaving (result (f ∷ [])) u v ≡ listLeaves s text work → (e ≡ f) × (t ≡ u) × (w ≡ v)

@@ -27,7 +27,7 @@ const MOST_N: usize = 256;
 const MOST_LENGTH: usize = 24576;
 
 // Every block is decoded; of the file no byte is kept, since none is printed.
-fn judge_blocks(bundle: &[u8], cells: &mut [u32]) -> Outcome
+fn blocks_answer(bundle: &[u8], cells: &mut [u32]) -> Outcome
     requires { ⌜ (layoutChecks (now bundle) ≡ result []) × (kIn (now bundle) ≤ heldIn (now bundle)) × (length (now cells) ≡ workRoom (nIn (now bundle))) ⌝ }
     ensures { λ r. ⌜ after (toldOutcome r) (result (lengthIn (now (bundle .entry)) ∷ [])) ≡ blocksAnswer (now (bundle .entry)) 0 (blocksIn (now (bundle .entry))) ⌝ }
 {
@@ -37,7 +37,7 @@ fn judge_blocks(bundle: &[u8], cells: &mut [u32]) -> Outcome
 }
 
 // ROOM, FEW and the blocks, once the layout is good.
-fn judge_served(bundle: &[u8], work: &mut [u32]) -> Outcome
+fn served_answer(bundle: &[u8], work: &mut [u32]) -> Outcome
     requires { ⌜ (layoutChecks (now bundle) ≡ result []) × (length (now work) ≡ 8 * mostN) ⌝ }
     ensures { λ r. ⌜ after (toldOutcome r) (result (lengthIn (now (bundle .entry)) ∷ [])) ≡ servedAnswer (now (bundle .entry)) ⌝ }
 {
@@ -52,10 +52,10 @@ fn judge_served(bundle: &[u8], work: &mut [u32]) -> Outcome
         return Outcome::Refused(Refusal::Few);
     }
     let stated = work_room(n);
-    judge_blocks(bundle, &mut work[0..stated])
+    blocks_answer(bundle, &mut work[0..stated])
 }
 
-pub fn judge(input: &[u8], work: &mut [u32]) -> Outcome
+pub fn program_answer(input: &[u8], work: &mut [u32]) -> Outcome
     requires { ⌜ length (now work) ≡ 8 * mostN ⌝ }
     ensures { λ r. ⌜ after (toldOutcome r) (result (lengthIn (now (input .entry)) ∷ [])) ≡ programAnswer (now (input .entry)) ⌝ }
 {
@@ -63,7 +63,7 @@ pub fn judge(input: &[u8], work: &mut [u32]) -> Outcome
         return Outcome::Refused(Refusal::Room);
     }
     match layout_checks(input) {
-        Outcome::Done => judge_served(input, work),
+        Outcome::Done => served_answer(input, work),
         Outcome::Refused(refusal) => Outcome::Refused(refusal),
     }
 }

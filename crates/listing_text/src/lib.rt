@@ -2,7 +2,7 @@
 mod answer;
 mod table;
 
-use crate::answer::judge;
+use crate::answer::program_answer;
 use crate::table::put_listing;
 use answers::Outcome;
 use cells::clear;
@@ -12,7 +12,7 @@ ghost use mathlib.Core.Path.{_≡_};
 ghost use mathlib.Core.List.{[], _∷_};
 ghost use Prim.Native.Nat.{_*_, _≤_};
 ghost use lib.ListN.{length};
-ghost use Rattle.answers.specs.Leaves.{left};
+ghost use Rattle.answers.specs.Leaves.{leaving};
 ghost use Rattle.answers.specs.Refusals.{result};
 ghost use Rattle.listing_text.specs.Answers.{mostN};
 ghost use Rattle.listing_text.specs.Calls.{textRoom, listLeaves};
@@ -33,9 +33,9 @@ fn alone(number: u32) -> bool
 // What is printed, at the front of text; where it ends is the answer.
 pub fn list(input: &[u8], text: &mut [u8], work: &mut [u32]) -> usize
     requires { ⌜ (textRoom ≤ length (now text)) × (length (now work) ≡ 8 * mostN) ⌝ }
-    ensures { λ r. ⌜ left (result (r ∷ [])) (now (text .exit)) (now (work .exit)) ≡ listLeaves (now (input .entry)) (now (text .entry)) (now (work .entry)) ⌝ }
+    ensures { λ r. ⌜ leaving (result (r ∷ [])) (now (text .exit)) (now (work .exit)) ≡ listLeaves (now (input .entry)) (now (text .entry)) (now (work .entry)) ⌝ }
 {
-    let answer = judge(input, work);
+    let answer = program_answer(input, work);
     clear(work);
     match answer {
         Outcome::Done => {

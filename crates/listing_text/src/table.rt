@@ -1,4 +1,4 @@
-// The header and the table of a bundle as text. No entry points and for this crate alone: `judge` has tested the layout.
+// The header and the table of a bundle as text. No entry points and for this crate alone: `program_answer` has tested the layout.
 use bundle_layout::inner::blocks_in;
 use bundle_layout::inner::count_in;
 use bundle_layout::inner::held_in;
@@ -7,8 +7,8 @@ use bundle_layout::inner::length_in;
 use bundle_layout::inner::n_in;
 use bundle_layout::inner::offset_in;
 use bundle_layout::inner::position_in;
-use listing_lines::put_entry;
-use listing_lines::put_header;
+use listing_lines::put_entry_line;
+use listing_lines::put_header_line;
 ghost use mathlib.Core.Path.{_≡_};
 ghost use mathlib.Core.List.{[]};
 ghost use Prim.Native.Nat.{_+_, _*_, _≤_};
@@ -30,7 +30,7 @@ fn put_entries(bundle: &[u8], held: usize, out: &mut [u8], at: usize) -> usize
         let position = position_in(bundle, t);
         let offset = offset_in(bundle, t);
         let count = count_in(bundle, t);
-        end = put_entry(position, offset, count, out, end);
+        end = put_entry_line(position, offset, count, out, end);
         t += 1;
     }
     end
@@ -42,7 +42,7 @@ pub fn put_listing(bundle: &[u8], out: &mut [u8]) -> usize
     ensures { λ r. ⌜ Puts (listing (now (bundle .entry))) (128 + 63 * heldIn (now (bundle .entry))) 0 (now (out .entry)) r (now (out .exit)) ⌝ }
 {
     let held = held_in(bundle);
-    let end = put_header(
+    let end = put_header_line(
         k_in(bundle),
         n_in(bundle),
         length_in(bundle),

@@ -13,7 +13,7 @@ use Rattle.field.proofs.Fermat.{inverse-≈}
 use Rattle.field.proofs.Ring.{difference-≈, product-≈}
 use Rattle.poly.specs.Distinct.{Distinct}
 use Rattle.poly.specs.Every.{Every}
-use Rattle.poly.specs.Interpolation.{slopes, through, Fits}
+use Rattle.poly.specs.Interpolation.{slopes, through, GoesThrough}
 use Rattle.poly.specs.Raised.{raised}
 use Rattle.poly.specs.Value.{value}
 use Rattle.poly.proofs.Counting.{unique}
@@ -56,8 +56,8 @@ slope x y z w apart =
 
 -- where h has the slopes, y + (X - x)·h has the values
 raised-fits : (x y : ℕ) (h zs ws : List ℕ) → length zs ≡ length ws → Every (λ z. ¬ (z ≈ x)) zs
-    → Fits h zs (slopes x y zs ws) → Fits (raised x y h) zs ws
-unfolding Every Fits slopes
+    → GoesThrough h zs (slopes x y zs ws) → GoesThrough (raised x y h) zs ws
+unfolding Every GoesThrough slopes
 raised-fits x y h [] [] size apart fits = tt
 raised-fits x y h [] (w ∷ ws) size apart fits = absurd (omega arith)
 raised-fits x y h (z ∷ zs) [] size apart fits = absurd fits
@@ -66,8 +66,8 @@ raised-fits x y h (z ∷ zs) (w ∷ ws) size apart fits = (
   raised-fits x y h zs ws (omega arith) (apart .1) (fits .1),
 )
 
-pub through-fits : (xs ys : List ℕ) → length xs ≡ length ys → Distinct xs → Fits (through xs ys) xs ys
-unfolding Distinct Fits through
+pub through-fits : (xs ys : List ℕ) → length xs ≡ length ys → Distinct xs → GoesThrough (through xs ys) xs ys
+unfolding Distinct GoesThrough through
 through-fits [] [] size apart = tt
 through-fits [] (y ∷ ys) size apart = absurd (omega arith)
 through-fits (x ∷ xs) [] size apart = absurd (omega arith)
@@ -81,23 +81,23 @@ through-fits (x ∷ xs) (y ∷ ys) size apart = (
     rest = through xs (slopes x y xs ys)
 
 -- a list fits where it has the right value at each index
-pub fits-of : (s xs ys : List ℕ) → length xs ≡ length ys → ((j : ℕ) → j < length xs → value s (getD xs j 0) ≈ getD ys j 0) → Fits s xs ys
-unfolding Fits
+pub fits-of : (s xs ys : List ℕ) → length xs ≡ length ys → ((j : ℕ) → j < length xs → value s (getD xs j 0) ≈ getD ys j 0) → GoesThrough s xs ys
+unfolding GoesThrough
 fits-of s [] [] size at = tt
 fits-of s [] (y ∷ ys) size at = absurd (omega arith)
 fits-of s (x ∷ xs) [] size at = absurd (omega arith)
 fits-of s (x ∷ xs) (y ∷ ys) size at = (at 0 (zero-lt-suc _), fits-of s xs ys (omega arith) (λ j l. at (suc j) (suc-le-suc l)))
 
 -- two lists that fit have the same values
-fits-same : (s t xs ys : List ℕ) → Fits s xs ys → Fits t xs ys → Every (λ x. value s x ≈ value t x) xs
-unfolding Every Fits
+fits-same : (s t xs ys : List ℕ) → GoesThrough s xs ys → GoesThrough t xs ys → Every (λ x. value s x ≈ value t x) xs
+unfolding Every GoesThrough
 fits-same s t [] [] g h = tt
 fits-same s t [] (y ∷ ys) g h = absurd g
 fits-same s t (x ∷ xs) [] g h = absurd g
 fits-same s t (x ∷ xs) (y ∷ ys) g h = (g .0 ∘≈ ≈-sym (h .0), fits-same s t xs ys (g .1) (h .1))
 
 pub through-unique : (xs ys s : List ℕ) → length xs ≡ length ys → Distinct xs → length s ≡ length xs → Every (_< 65537) s
-    → Fits s xs ys → s ≡ through xs ys
+    → GoesThrough s xs ys → s ≡ through xs ys
 through-unique xs ys s size apart size-s low fits =
     unique xs s (through xs ys) size-s (through-length xs ys size) apart low (through-symbols xs ys)
     (fits-same s (through xs ys) xs ys fits (through-fits xs ys size apart))

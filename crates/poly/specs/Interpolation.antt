@@ -19,8 +19,8 @@ through (x ∷ xs) [] = []
 through (x ∷ xs) (y ∷ ys) = raised x y (through xs (slopes x y xs ys))
 
 -- s has the value y of ys at each x of xs, modulo 65537, and there are as many of the one as of the other
-unfoldable pub Fits : List ℕ → List ℕ → List ℕ → Type 0
-Fits s [] [] = Unit {0}
-Fits s [] (y ∷ ys) = ⊥
-Fits s (x ∷ xs) [] = ⊥
-Fits s (x ∷ xs) (y ∷ ys) = (value s x ≈ y) × Fits s xs ys
+unfoldable pub GoesThrough : List ℕ → List ℕ → List ℕ → Type 0
+GoesThrough s [] [] = Unit {0}
+GoesThrough s [] (y ∷ ys) = ⊥
+GoesThrough s (x ∷ xs) [] = ⊥
+GoesThrough s (x ∷ xs) (y ∷ ys) = (value s x ≈ y) × GoesThrough s xs ys

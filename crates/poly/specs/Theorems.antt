@@ -10,7 +10,7 @@ use Rattle.field.specs.Symbol.{Symbols}
 use Rattle.poly.specs.Distinct.{Distinct}
 use Rattle.poly.specs.Division.{quotient}
 use Rattle.poly.specs.Every.{Every}
-use Rattle.poly.specs.Interpolation.{through, Fits}
+use Rattle.poly.specs.Interpolation.{through, GoesThrough}
 use Rattle.poly.specs.Parts.{evens, odds}
 use Rattle.poly.specs.Products.{times, vanishing}
 use Rattle.poly.specs.Sum.{total}
@@ -50,12 +50,12 @@ Unique =
 abbrev pub InterpolationFits : Type 0
 InterpolationFits =
     (xs ys : List ℕ) → length xs ≡ length ys → Distinct xs
-    → (length (through xs ys) ≡ length xs) × Symbols (through xs ys) × Fits (through xs ys) xs ys
+    → (length (through xs ys) ≡ length xs) × Symbols (through xs ys) × GoesThrough (through xs ys) xs ys
 
 -- and no other list of k symbols has them
 abbrev pub InterpolationUnique : Type 0
 InterpolationUnique =
-    (xs ys s : List ℕ) → length xs ≡ length ys → Distinct xs → length s ≡ length xs → Symbols s → Fits s xs ys
+    (xs ys s : List ℕ) → length xs ≡ length ys → Distinct xs → length s ≡ length xs → Symbols s → GoesThrough s xs ys
     → s ≡ through xs ys
 
 -- Products of factors X - z

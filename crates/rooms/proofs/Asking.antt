@@ -16,7 +16,7 @@ use Rattle.limits.specs.Values.{firstAbove, refuseAbove}
 use Rattle.answers.specs.declared.refusal.Refusal.{Refusal}
 use Rattle.answers.specs.declared.refusal.Refusal.the-variants.{Shape, Length, Room, Few, Position, Repeat, Value, Disagree, Word, Tail}
 use Rattle.answers.proofs.Refusals.{result-no-refusal}
-use Rattle.transform.specs.Calls.{judged, callLeaves}
+use Rattle.transform.specs.Calls.{transformChecks, callLeaves}
 use Rattle.transform.specs.Lengths.{badLength}
 use Rattle.code.specs.Decoded.{decoded}
 use Rattle.code.specs.Decoding.{decodeOf}
@@ -140,12 +140,12 @@ module _ (first lengths others : Answer) (o w : ℕ) (told short : Answer) (chec
 
 module _ (back : Bool) (list : List ℕ) where
   pub transform-asks : AsksFor (transformRoomAnswer (length list)) (refused Room) (λ out. callLeaves back list)
-  unfolding transformRoomAnswer judged
+  unfolding transformRoomAnswer transformChecks
   transform-asks =
       asks-for (refuseIf (badLength (length list)) Shape (result [])) (result []) (refuseAbove list (result [])) 0 (length list) _ _
-      (λ out work. judged list work) (λ out work. result []) _ (check (badLength (length list)) Shape _) refl
+      (λ out work. transformChecks list work) (λ out work. result []) _ (check (badLength (length list)) Shape _) refl
       (λ out work. rw (le-ltb out 0 zero-le) (check (badLength (length list)) Shape _))
-      (λ out work. unless (judged list (length work)) list work _)
+      (λ out work. unless (transformChecks list (length work)) list work _)
       result-no-refusal
       (other-if (ltb (firstAbove list) (length list)) (Value (firstAbove list)) refl result-no-refusal)
       (λ out work. result-no-refusal)

@@ -8,11 +8,11 @@ use Rattle.rooms.specs.declared.answer.RoomAnswer.{RoomAnswer}
 use Rattle.rooms.specs.declared.answer.RoomAnswer.the-variants as R
 
 room : ℕ → ℕ → RoomAnswer
-room out work = R.Room (record { out = out; work = work })
+room out work = R.Space (record { out = out; work = work })
 
 pub told-room-one : (a b : RoomAnswer) → toldRoom a ≡ toldRoom b → a ≡ b
 unfolding room
-told-room-one (R.Room r) (R.Room s) e = let same : room (r .out) (r .work) ≡ room (s .out) (s .work) = cc in same
-told-room-one (R.Room r) (R.Refused y) e = absurd (result-no-refusal e)
-told-room-one (R.Refused x) (R.Room s) e = absurd (result-no-refusal (sym e))
+told-room-one (R.Space r) (R.Space s) e = let same : room (r .out) (r .work) ≡ room (s .out) (s .work) = cc in same
+told-room-one (R.Space r) (R.Refused y) e = absurd (result-no-refusal e)
+told-room-one (R.Refused x) (R.Space s) e = absurd (result-no-refusal (sym e))
 told-room-one (R.Refused x) (R.Refused y) e = ap R.Refused (refusals-told x y e)

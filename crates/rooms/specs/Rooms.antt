@@ -37,5 +37,5 @@ readRoomAnswer s = after (layoutChecks s) (result (lengthIn s ∷ workRoom (nIn 
 
 -- the answer of the code, on paper: how long the output, then how long the working space has to be
 abbrev pub toldRoom : RoomAnswer → Answer
-toldRoom (R.Room r) = result (r .out ∷ r .work ∷ [])
+toldRoom (R.Space r) = result (r .out ∷ r .work ∷ [])
 toldRoom (R.Refused x) = refused x

@@ -45,20 +45,20 @@ pub record RoomsTold : Type 0 where
 -- Two answers of a call are equal
 
 -- two answers that tell the same
-abbrev pub Settled : Answer → Type 0
-Settled told = (a b : RoomAnswer) → toldRoom a ≡ told → toldRoom b ≡ told → a ≡ b
+abbrev pub RoomAnswerSettled : Answer → Type 0
+RoomAnswerSettled told = (a b : RoomAnswer) → toldRoom a ≡ told → toldRoom b ≡ told → a ≡ b
 
 abbrev pub TransformRoomSettled : Type 0
-TransformRoomSettled = (N : ℕ) → Settled (transformRoomAnswer N)
+TransformRoomSettled = (N : ℕ) → RoomAnswerSettled (transformRoomAnswer N)
 
 abbrev pub EncodeRoomSettled : Type 0
-EncodeRoomSettled = (k n : ℕ) → Settled (encodeRoomAnswer k n)
+EncodeRoomSettled = (k n : ℕ) → RoomAnswerSettled (encodeRoomAnswer k n)
 
 abbrev pub DecodeRoomSettled : Type 0
-DecodeRoomSettled = (k n : ℕ) → Settled (decodeRoomAnswer k n)
+DecodeRoomSettled = (k n : ℕ) → RoomAnswerSettled (decodeRoomAnswer k n)
 
 abbrev pub WriteRoomSettled : Type 0
-WriteRoomSettled = (k n L : ℕ) → Settled (writeRoomAnswer k n L)
+WriteRoomSettled = (k n L : ℕ) → RoomAnswerSettled (writeRoomAnswer k n L)
 
 abbrev pub ReadRoomSettled : Type 0
-ReadRoomSettled = (bundle : List ℕ) → Settled (readRoomAnswer bundle)
+ReadRoomSettled = (bundle : List ℕ) → RoomAnswerSettled (readRoomAnswer bundle)

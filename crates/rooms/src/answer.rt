@@ -1,12 +1,12 @@
 // The answer of the calls that tell a room: how long the output and the working space have to be at least.
 use answers::Refusal;
 
-pub struct Room {
+pub struct Space {
     pub out: usize,
     pub work: usize,
 }
 
 pub enum RoomAnswer {
-    Room(Room),
+    Space(Space),
     Refused(Refusal),
 }

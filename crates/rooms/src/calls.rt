@@ -1,7 +1,7 @@
 // The entry points: each tells the room that the call of its name asks for, or refuses as that call does whatever it is lent, so that a caller
 // can find memory first. The numbers are those that the call itself measures by.
-use crate::answer::Room;
 use crate::answer::RoomAnswer;
+use crate::answer::Space;
 use answers::Outcome;
 use answers::Refusal;
 use bundle::inner::work_room;
@@ -22,7 +22,7 @@ pub fn transform_room(length: usize) -> RoomAnswer
     if bad_length(length) {
         return RoomAnswer::Refused(Refusal::Shape);
     }
-    RoomAnswer::Room(Room {
+    RoomAnswer::Space(Space {
         out: 0,
         work: length,
     })
@@ -34,7 +34,7 @@ pub fn encode_room(k: usize, n: usize) -> RoomAnswer
     if bad_shape(k, n) {
         return RoomAnswer::Refused(Refusal::Shape);
     }
-    RoomAnswer::Room(Room {
+    RoomAnswer::Space(Space {
         out: n,
         work: block::inner::encode_room(n),
     })
@@ -46,7 +46,7 @@ pub fn decode_room(k: usize, n: usize) -> RoomAnswer
     if bad_shape(k, n) {
         return RoomAnswer::Refused(Refusal::Shape);
     }
-    RoomAnswer::Room(Room {
+    RoomAnswer::Space(Space {
         out: k,
         work: block::inner::decode_room(n),
     })
@@ -59,7 +59,7 @@ pub fn write_room(k: usize, n: usize, length: usize) -> RoomAnswer
     if bad_bundle_shape(k, n, length) {
         return RoomAnswer::Refused(Refusal::Shape);
     }
-    RoomAnswer::Room(Room {
+    RoomAnswer::Space(Space {
         out: bundle::inner::write_room(n, blocks(k, length)),
         work: work_room(n),
     })
@@ -69,7 +69,7 @@ pub fn read_room(bundle: &[u8]) -> RoomAnswer
     ensures { λ r. ⌜ toldRoom r ≡ readRoomAnswer (now (bundle .entry)) ⌝ }
 {
     match layout_checks(bundle) {
-        Outcome::Done => RoomAnswer::Room(Room {
+        Outcome::Done => RoomAnswer::Space(Space {
             out: length_in(bundle),
             work: work_room(n_in(bundle)),
         }),

@@ -2,8 +2,8 @@
 mod answer;
 mod calls;
 
-pub use answer::Room;
 pub use answer::RoomAnswer;
+pub use answer::Space;
 pub use calls::decode_room;
 pub use calls::encode_room;
 pub use calls::read_room;

@@ -4,7 +4,7 @@ use mathlib.Core.Path.{_≡_, refl, sym, ap, _∙_}
 use mathlib.Core.Bool.{Bool, true, false}
 use mathlib.Core.List.{List, [], _∷_}
 use Prim.Native.Nat.{ℕ}
-use Rattle.answers.specs.Leaves.{Leaves, left}
+use Rattle.answers.specs.Leaves.{Leaves, leaving}
 use Rattle.answers.specs.Refusals.{Answer, result, refused, refuseIf, toldOutcome}
 use Rattle.answers.specs.declared.refusal.Outcome.{Outcome}
 use Rattle.answers.specs.declared.refusal.Refusal.{Refusal}
@@ -18,7 +18,7 @@ use Rattle.bundle_layout.specs.declared.facts.FactsAnswer.the-variants as F
 use Rattle.bundle.specs.Answers.{toldLength}
 use Rattle.bundle.specs.declared.answer.LengthAnswer.{LengthAnswer}
 use Rattle.rooms.specs.Rooms.{toldRoom, transformRoomAnswer}
-use Rattle.rooms.specs.declared.answer.Room.{Room}
+use Rattle.rooms.specs.declared.answer.Space.{Space}
 use Rattle.rooms.specs.declared.answer.RoomAnswer.{RoomAnswer}
 use Rattle.rooms.specs.declared.answer.RoomAnswer.the-variants as R
 use Rattle.answers.specs.Telling.{Returned, status-number, returned}
@@ -34,11 +34,11 @@ pub point-refused : (a : Answer) (x : Refusal) (before s p : ℕ) → refused x 
 point-refused a x before s p is told =
     ap (λ (r : Returned). with-point r before) told ∙ ap (λ (a : Answer). pointReturned a before) is
 
-pub lists-told : (it : Leaves) (o : Outcome) (l w : List ℕ) (s p : ℕ) → left (toldOutcome o) l w ≡ it
+pub lists-told : (it : Leaves) (o : Outcome) (l w : List ℕ) (s p : ℕ) → leaving (toldOutcome o) l w ≡ it
     → status-number s p ≡ returned (toldOutcome o) → with-lists (status-number s p) l w ≡ listsReturned it
 lists-told it o l w s p is told = ap (λ (r : Returned). with-lists r l w) told ∙ ap listsReturned is
 
-pub lists-told-number : (it : Leaves) (a : LengthAnswer) (l w : List ℕ) (s p : ℕ) → left (toldLength a) l w ≡ it
+pub lists-told-number : (it : Leaves) (a : LengthAnswer) (l w : List ℕ) (s p : ℕ) → leaving (toldLength a) l w ≡ it
     → status-number s p ≡ returnedNumber (toldLength a) → with-lists (status-number s p) l w ≡ listsReturnedNumber it
 lists-told-number it a l w s p is told = ap (λ (r : Returned). with-lists r l w) told ∙ ap listsReturnedNumber is
 
@@ -68,7 +68,7 @@ module _ (a : Answer) (t o c s p : ℕ) where
 
 -- o and w are what the numbers held before
 module _ (a : RoomAnswer) (o w s p : ℕ) where
-  pub room-found : (r : Room) → a ≡ R.Room r → status-number s p ≡ returned (result [])
+  pub room-found : (r : Space) → a ≡ R.Space r → status-number s p ≡ returned (result [])
       → with-room (status-number s p) (r .out) (r .work) ≡ roomReturned (toldRoom a) o w
   room-found r is told =
       ap (λ (x : Returned). with-room x (r .out) (r .work)) told ∙ ap (λ (a : RoomAnswer). roomReturned (toldRoom a) o w) (sym is)

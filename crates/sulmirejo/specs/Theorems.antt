@@ -20,30 +20,30 @@ PointSettled =
     → s ≡ pointReturned (pointAnswer n i) before → r ≡ s
 
 -- two outcomes of a call that leaves lists
-abbrev pub Settled : Leaves → Type 0
-Settled it = (r s : ListsReturned) → r ≡ listsReturned it → s ≡ listsReturned it → r ≡ s
+abbrev pub ListsSettled : Leaves → Type 0
+ListsSettled it = (r s : ListsReturned) → r ≡ listsReturned it → s ≡ listsReturned it → r ≡ s
 
 abbrev pub TransformSettled : Type 0
-TransformSettled = (list work : List ℕ) → Settled (transformLeaves list work)
+TransformSettled = (list work : List ℕ) → ListsSettled (transformLeaves list work)
 
 abbrev pub InverseSettled : Type 0
-InverseSettled = (list work : List ℕ) → Settled (inverseLeaves list work)
+InverseSettled = (list work : List ℕ) → ListsSettled (inverseLeaves list work)
 
 abbrev pub EncodeSettled : Type 0
-EncodeSettled = (k n : ℕ) (message out work : List ℕ) → Settled (encodeLeaves k n message out work)
+EncodeSettled = (k n : ℕ) (message out work : List ℕ) → ListsSettled (encodeLeaves k n message out work)
 
 abbrev pub DecodeSettled : Type 0
-DecodeSettled = (k n : ℕ) (positions values out work : List ℕ) → Settled (decodeLeaves k n positions values out work)
+DecodeSettled = (k n : ℕ) (positions values out work : List ℕ) → ListsSettled (decodeLeaves k n positions values out work)
 
 -- two outcomes of a call that leaves lists and tells a length
-abbrev pub NumberSettled : Leaves → Type 0
-NumberSettled it = (r s : ListsReturned) → r ≡ listsReturnedNumber it → s ≡ listsReturnedNumber it → r ≡ s
+abbrev pub ListsNumberSettled : Leaves → Type 0
+ListsNumberSettled it = (r s : ListsReturned) → r ≡ listsReturnedNumber it → s ≡ listsReturnedNumber it → r ≡ s
 
 abbrev pub WriteSettled : Type 0
-WriteSettled = (k n : ℕ) (file out work : List ℕ) → NumberSettled (writeLeaves k n file out work)
+WriteSettled = (k n : ℕ) (file out work : List ℕ) → ListsNumberSettled (writeLeaves k n file out work)
 
 abbrev pub ReadSettled : Type 0
-ReadSettled = (bundle out work : List ℕ) → NumberSettled (readLeaves bundle out work)
+ReadSettled = (bundle out work : List ℕ) → ListsNumberSettled (readLeaves bundle out work)
 
 abbrev pub FactsSettled : Type 0
 FactsSettled =

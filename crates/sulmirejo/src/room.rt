@@ -12,9 +12,9 @@ fn tell_room(answer: RoomAnswer, out: &mut usize, work: &mut usize, number: &mut
     ensures { λ r. ⌜ with-room (status-number r (now (number .exit))) (now (out .exit)) (now (work .exit)) ≡ roomReturned (toldRoom answer) (now (out .entry)) (now (work .entry)) ⌝ }
 {
     match answer {
-        RoomAnswer::Room(room) => {
-            *out = room.out;
-            *work = room.work;
+        RoomAnswer::Space(space) => {
+            *out = space.out;
+            *work = space.work;
             tell(Outcome::Done, number)
         }
         RoomAnswer::Refused(refusal) => tell(Outcome::Refused(refusal), number),

@@ -11,11 +11,11 @@ use lib.Pow.{pow-pos, pow-lt}
 use Rattle.limits.specs.Shape.{longest}
 use Rattle.field.specs.Size.{levelOf, sizeOf}
 use Rattle.answers.proofs.Checks.{or-false}
-use Rattle.answers.proofs.Leaves.{settled}
+use Rattle.answers.proofs.Leaves.{outcome-settled}
 use Rattle.field.proofs.Sizes.{size-power, size-of-power}
 use Rattle.transform.specs.Lengths.{badLength}
 use Rattle.transform.specs.Theorems.{GoodLengths, TransformSettled, InverseSettled}
-use Rattle.transform.proofs.Judged.{good-size}
+use Rattle.transform.proofs.Passing.{good-size}
 
 few-levels : (e : ℕ) → 2 ^ e ≤ longest → e ≤ 16
 unfolding longest
@@ -40,7 +40,7 @@ good-lengths N = (forth, λ p. back (p .1 .0) (p .0) (p .1 .1))
         )
 
 pub transform-settled : TransformSettled
-transform-settled list work = settled _
+transform-settled list work = outcome-settled _
 
 pub inverse-settled : InverseSettled
-inverse-settled list work = settled _
+inverse-settled list work = outcome-settled _

@@ -4,7 +4,7 @@ use mathlib.Core.List.{List, []}
 use Prim.Native.Nat.{ℕ}
 use lib.Dec.{ltb}
 use lib.ListN.{length}
-use Rattle.answers.specs.Leaves.{Leaves, left, unlessRefused, zeroed}
+use Rattle.answers.specs.Leaves.{Leaves, leaving, unlessRefused, zeroed}
 use Rattle.answers.specs.Refusals.{Answer, result, refuseIf}
 use Rattle.limits.specs.Values.{refuseAbove}
 use Rattle.answers.specs.declared.refusal.Refusal.the-variants.{Shape, Room}
@@ -12,8 +12,8 @@ use Rattle.transform.specs.Lengths.{badLength}
 use Rattle.transform_halving.specs.Transform.{transformOf, inverseOf}
 
 -- the checks, in the order of the numbers: SHAPE, ROOM, VALUE
-unfoldable pub judged : List ℕ → ℕ → Answer
-judged list room =
+unfoldable pub transformChecks : List ℕ → ℕ → Answer
+transformChecks list room =
     refuseIf (badLength (length list)) Shape (refuseIf (ltb room (length list)) Room (refuseAbove list (result [])))
 
 -- the transform, or back by the inverse
@@ -24,8 +24,8 @@ oneOf true = inverseOf
 -- what either call leaves of the list and the working space that it is lent
 abbrev pub callLeaves : Bool → List ℕ → List ℕ → Leaves
 callLeaves back list work =
-    unlessRefused (judged list (length work)) list work
-    (left (result []) (oneOf back list) (zeroed (length list) work))
+    unlessRefused (transformChecks list (length work)) list work
+    (leaving (result []) (oneOf back list) (zeroed (length list) work))
 
 abbrev pub transformLeaves : List ℕ → List ℕ → Leaves
 transformLeaves = callLeaves false

@@ -4,7 +4,7 @@ use mathlib.Core.Bool.{false}
 use mathlib.Core.List.{List}
 use mathlib.Core.Logic.{_↔_}
 use Prim.Native.Nat.{ℕ, _^_, _≤_}
-use Rattle.answers.specs.Leaves.{Settled}
+use Rattle.answers.specs.Leaves.{OutcomeSettled}
 use Rattle.limits.specs.Shape.{longest}
 use Rattle.transform.specs.Calls.{transformLeaves, inverseLeaves}
 use Rattle.transform.specs.Lengths.{badLength}
@@ -15,7 +15,7 @@ GoodLengths = (N : ℕ) → (badLength N ≡ false) ↔ ((N ≤ longest) × ((e 
 
 -- two outcomes of a call are equal: the answer and every cell of both lists
 abbrev pub TransformSettled : Type 0
-TransformSettled = (list work : List ℕ) → Settled (transformLeaves list work)
+TransformSettled = (list work : List ℕ) → OutcomeSettled (transformLeaves list work)
 
 abbrev pub InverseSettled : Type 0
-InverseSettled = (list work : List ℕ) → Settled (inverseLeaves list work)
+InverseSettled = (list work : List ℕ) → OutcomeSettled (inverseLeaves list work)

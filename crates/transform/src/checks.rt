@@ -6,7 +6,7 @@ use limits::LONGEST;
 use limits::first_above;
 ghost use mathlib.Core.Path.{_≡_};
 ghost use Rattle.answers.specs.Refusals.{toldOutcome};
-ghost use Rattle.transform.specs.Calls.{judged};
+ghost use Rattle.transform.specs.Calls.{transformChecks};
 ghost use Rattle.transform.specs.Lengths.{badLength};
 
 // Whether SHAPE refuses a list of that length.
@@ -22,8 +22,8 @@ pub fn bad_length(length: usize) -> bool
     size(length) != length
 }
 
-pub fn judge(list: &[u32], room: usize) -> Outcome
-    ensures { λ r. ⌜ toldOutcome r ≡ judged (now (list .entry)) room ⌝ }
+pub fn transform_checks(list: &[u32], room: usize) -> Outcome
+    ensures { λ r. ⌜ toldOutcome r ≡ transformChecks (now (list .entry)) room ⌝ }
 {
     if bad_length(list.len()) {
         return Outcome::Refused(Refusal::Shape);

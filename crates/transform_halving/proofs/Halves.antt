@@ -1,4 +1,4 @@
--- The two halves of a list that is ready are ready, and what stands in a list whose halves are lent and written one after the other.
+-- The two halves of a list that can be transformed can be, and what stands in a list whose halves are lent and written one after the other.
 -- Assumes nothing.
 use mathlib.Core.Path.{_≡_, refl, sym, ap, ap₂, subst, _∙_}
 use mathlib.Core.List.{List, _++_, append-nil}
@@ -17,10 +17,10 @@ use Rattle.poly.proofs.Symbols.{append-symbols, tab-symbols}
 use Rattle.poly.proofs.Tab.{tab-length}
 use Rattle.transform_halving.specs.Halving.{turned, joined}
 use Rattle.transform_halving.specs.InPlace.{halved}
-use Rattle.transform_halving.specs.Ready.{Ready}
-use Rattle.transform_halving.proofs.Ready.{ready-of, ready-power}
+use Rattle.transform_halving.specs.Transformable.{Transformable}
+use Rattle.transform_halving.proofs.Transformable.{transformable-of, transformable-power}
 
--- a list that is ready, of more than one number
+-- a list that can be transformed, of more than one number
 pub record Pair (d : List ℕ) : Type 0 where
   pub k : ℕ
   pub few : k ≤ 16
@@ -28,18 +28,18 @@ pub record Pair (d : List ℕ) : Type 0 where
   pub half : length d / 2 ≡ 2 ^ k
   pub whole : length d ≡ 2 ^ k + 2 ^ k
 
-pub pair-of : (d : List ℕ) → Ready d → 2 ≤ length d → Pair d
-pair-of d ready many = at (levelOf (length d)) refl
+pub pair-of : (d : List ℕ) → Transformable d → 2 ≤ length d → Pair d
+pair-of d able many = at (levelOf (length d)) refl
   where
     at : (e : ℕ) → levelOf (length d) ≡ e → Pair d
-    at zero e = absurd (omega (arith, ready-power d ready, ap (2 ^_) e))
+    at zero e = absurd (omega (arith, transformable-power d able, ap (2 ^_) e))
     at (suc k) e =
         record {
           k = k;
           few = omega (arith, level-le (length d));
           level = e;
-          half = omega (arith, ready-power d ready, ap (2 ^_) e);
-          whole = omega (arith, ready-power d ready, ap (2 ^_) e);
+          half = omega (arith, transformable-power d able, ap (2 ^_) e);
+          whole = omega (arith, transformable-power d able, ap (2 ^_) e);
         }
 
 joined-symbols : (r : ℕ) (e o : List ℕ) → Symbols (joined r e o)
@@ -69,9 +69,9 @@ halved-length (suc k) r a e =
 
 -- The halves of a list of more than one number, lent one after the other: e is what the first is left with, o the second
 
-module _ (d : List ℕ) (ready : Ready d) (many : 2 ≤ length d) where
+module _ (d : List ℕ) (able : Transformable d) (many : 2 ≤ length d) where
   p : Pair d
-  p = pair-of d ready many
+  p = pair-of d able many
 
   front-length : length (take (length d / 2) d) ≡ 2 ^ p .k
   front-length = length-take-le (length d / 2) d (omega arith) ∙ p .half
@@ -79,15 +79,15 @@ module _ (d : List ℕ) (ready : Ready d) (many : 2 ≤ length d) where
   back-length : length (drop (length d / 2) d) ≡ 2 ^ p .k
   back-length = length-drop (length d / 2) d ∙ omega (arith, p .half, p .whole)
 
-  front-ready : Ready (take (length d / 2) d)
-  front-ready =
-      ready-of (p .k) (p .few) _ front-length
-      (λ i h. rw (getD-take (length d / 2) d i 0 (omega (arith, front-length, p .half))) (ready .symbols i (omega (arith, front-length, p .whole))))
+  front-transformable : Transformable (take (length d / 2) d)
+  front-transformable =
+      transformable-of (p .k) (p .few) _ front-length
+      (λ i h. rw (getD-take (length d / 2) d i 0 (omega (arith, front-length, p .half))) (able .symbols i (omega (arith, front-length, p .whole))))
 
-  back-ready : Ready (drop (length d / 2) d)
-  back-ready =
-      ready-of (p .k) (p .few) _ back-length
-      (λ i h. rw (getD-drop (length d / 2) d i 0) (ready .symbols (length d / 2 + i) (omega (arith, back-length, p .half, p .whole))))
+  back-transformable : Transformable (drop (length d / 2) d)
+  back-transformable =
+      transformable-of (p .k) (p .few) _ back-length
+      (λ i h. rw (getD-drop (length d / 2) d i 0) (able .symbols (length d / 2 + i) (omega (arith, back-length, p .half, p .whole))))
 
   -- what the first call is lent
   abbrev pub first : List ℕ
@@ -96,8 +96,8 @@ module _ (d : List ℕ) (ready : Ready d) (many : 2 ≤ length d) where
   first-is : first ≡ take (length d / 2) d
   first-is = ap (λ (m : ℕ). take m d) {x = length d / 2 - 0} {y = length d / 2} (omega arith)
 
-  pub first-ready : Ready first
-  first-ready = rw first-is front-ready
+  pub first-transformable : Transformable first
+  first-transformable = rw first-is front-transformable
 
   pub first-less : length first < length d
   first-less = rw first-is (omega (arith, front-length, p .whole, pow-pos (p .k)))
@@ -126,8 +126,8 @@ module _ (d : List ℕ) (ready : Ready d) (many : 2 ≤ length d) where
         ap (take (length between - length d / 2)) between-tail
         ∙ take-all (length between - length d / 2) _ (omega (arith, between-length, length-drop (length d / 2) d))
 
-    pub second-ready : Ready second
-    second-ready = rw second-is back-ready
+    pub second-transformable : Transformable second
+    second-transformable = rw second-is back-transformable
 
     pub second-less : length second < length d
     second-less = rw second-is (omega (arith, back-length, p .whole, pow-pos (p .k)))
@@ -153,13 +153,13 @@ module _ (d : List ℕ) (ready : Ready d) (many : 2 ≤ length d) where
       after-length = ap length after-is ∙ length-append e o ∙ omega (arith, e-long, o-long, p .half, p .whole)
 
       module _ (root square : ℕ) (squared : square ≡ product root root) (done : e ≡ halved (levelOf (length first)) square first) (done' : o ≡ halved (levelOf (length second)) square second) where
-        pub after-ready : (length after % 2 ≡ 0) × Symbols after
-        after-ready = (
+        pub after-transformable : (length after % 2 ≡ 0) × Symbols after
+        after-transformable = (
           omega (arith, after-length, p .whole),
           subst Symbols (sym after-is)
               (append-symbols e o
-              (subst Symbols (sym done) (halved-symbols _ _ first (first-ready .symbols)))
-              (subst Symbols (sym done') (halved-symbols _ _ second (second-ready .symbols)))),
+              (subst Symbols (sym done) (halved-symbols _ _ first (first-transformable .symbols)))
+              (subst Symbols (sym done') (halved-symbols _ _ second (second-transformable .symbols)))),
         )
 
         -- a half, by the level below
@@ -187,13 +187,13 @@ module _ (d : List ℕ) (ready : Ready d) (many : 2 ≤ length d) where
             ∙ halves-joined
 
 -- a single number
-pub single-halved : (root : ℕ) (d : List ℕ) → Ready d → length d < 2 → d ≡ halved (levelOf (length d)) root d
+pub single-halved : (root : ℕ) (d : List ℕ) → Transformable d → length d < 2 → d ≡ halved (levelOf (length d)) root d
 unfolding halved
-single-halved root d ready one = ap (λ (l : ℕ). halved l root d) (sym none)
+single-halved root d able one = ap (λ (l : ℕ). halved l root d) (sym none)
   where
     at : (e : ℕ) → levelOf (length d) ≡ e → e ≡ 0
     at zero e = refl
-    at (suc k) e = absurd (omega (arith, ready-power d ready, ap (2 ^_) e, pow-pos k))
+    at (suc k) e = absurd (omega (arith, transformable-power d able, ap (2 ^_) e, pow-pos k))
 
     none : levelOf (length d) ≡ 0
     none = at (levelOf (length d)) refl

@@ -1,4 +1,4 @@
-pub mod Ready
+pub mod Transformable
 pub mod Sums
 pub mod Round
 pub mod Undo

@@ -17,10 +17,10 @@ use Rattle.poly.specs.Tab.{tab}
 use Rattle.poly.proofs.Tab.{tab-length, tab-at}
 use Rattle.transform_halving.specs.InPlace.{halved}
 use Rattle.transform_halving.specs.Order.{reversed, arranged}
-use Rattle.transform_halving.specs.Ready.{Ready}
+use Rattle.transform_halving.specs.Transformable.{Transformable}
 use Rattle.transform_halving.specs.Transform.{transformOf, inverseOf}
 use Rattle.transform_halving.proofs.Order.{reversed-lt, arranged-in-order, halved-is}
-use Rattle.transform_halving.proofs.Ready.{ready-power}
+use Rattle.transform_halving.proofs.Transformable.{transformable-power}
 use Rattle.transform_halving.proofs.Sums.{values, values-length, Halfway, halving-values}
 use Rattle.transform_halving.proofs.Undo.{opposite, transform-values, inverse-values}
 
@@ -33,23 +33,23 @@ inverse-halfway zero h = tt
 inverse-halfway (suc k) h =
     comb (inverse (root (suc k)) ^ (2 ^ k) ·≈ root-half k h +≈ ≈-sym (opposite (suc k) h .meet (2 ^ k))) 0 0 (omega arith)
 
-module _ (d : List ℕ) (ready : Ready d) where
+module _ (d : List ℕ) (able : Transformable d) where
   size : length d ≡ 2 ^ levelOf (length d)
-  size = ready-power d ready
+  size = transformable-power d able
 
   pub arranged-length : length (arranged d) ≡ length d
   unfolding arranged
   arranged-length = tab-length (length d) _
 
-  pub arranged-ready : Ready (arranged d)
+  pub arranged-transformable : Transformable (arranged d)
   unfolding arranged
-  arranged-ready =
+  arranged-transformable =
       record {
-        size = rw arranged-length (ready .size);
+        size = rw arranged-length (able .size);
         symbols =
             λ i h.
             rw (tab-at (length d) _ i (omega (arith, arranged-length)))
-            (ready .symbols (reversed (levelOf (length d)) i) (omega (arith, size, reversed-lt (levelOf (length d)) i)));
+            (able .symbols (reversed (levelOf (length d)) i) (omega (arith, size, reversed-lt (levelOf (length d)) i)));
       }
 
   -- arranged and halved
@@ -61,7 +61,7 @@ module _ (d : List ℕ) (ready : Ready d) where
       ∙ ap (λ (n : ℕ). halved (levelOf n) r (arranged d)) arranged-length
       ∙ ap (halved (levelOf (length d)) r) (arranged-in-order (levelOf (length d)) (level-le (length d)) d size)
       ∙ halved-is (levelOf (length d)) r d size
-      ∙ halving-values (levelOf (length d)) r d size (ready .symbols) half
+      ∙ halving-values (levelOf (length d)) r d size (able .symbols) half
       ∙ ap (λ (n : ℕ). values r n d) (sym size)
 
   pub transform-steps : (r : ℕ) (s t : List ℕ) → r ≡ rootOf (length d) → s ≡ arranged d → t ≡ halved (levelOf (length s)) r s

@@ -26,7 +26,7 @@ use Rattle.poly.proofs.Values.{value-≈}
 use Rattle.transform_halving.specs.Theorems.{HalvingIsSum, HalvedIsHalving, TransformIsValue, TransformSymbols, InverseUndoes, TransformUndoes, WorkedNumbers}
 use Rattle.transform_halving.specs.Transform.{sums, transformOf, inverseOf}
 use Rattle.transform_halving.proofs.Order.{arranged-in-order, halved-is}
-use Rattle.transform_halving.proofs.Ready.{ready-of}
+use Rattle.transform_halving.proofs.Transformable.{transformable-of}
 use Rattle.transform_halving.proofs.Steps.{root-halfway}
 use Rattle.transform_halving.proofs.Sums.{values, values-at, halving-values}
 use Rattle.transform_halving.proofs.Undo as Undo
@@ -64,10 +64,10 @@ transform-symbols a = (
 )
 
 pub inverse-undoes : InverseUndoes
-inverse-undoes e h a long small = Undo.inverse-undoes a (ready-of e h a long small)
+inverse-undoes e h a long small = Undo.inverse-undoes a (transformable-of e h a long small)
 
 pub transform-undoes : TransformUndoes
-transform-undoes e h a long small = Undo.transform-undoes a (ready-of e h a long small)
+transform-undoes e h a long small = Undo.transform-undoes a (transformable-of e h a long small)
 
 four : Symbols (1 ∷ 2 ∷ 0 ∷ 0 ∷ [])
 unfolding Every

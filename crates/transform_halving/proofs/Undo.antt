@@ -24,9 +24,9 @@ use Rattle.poly.specs.Value.{value}
 use Rattle.poly.proofs.Sum.{total-≈, total-scale}
 use Rattle.poly.proofs.Tab.{tab-length, tab-ext, tab-getD}
 use Rattle.poly.proofs.Values.{plain-sum, value-tab}
-use Rattle.transform_halving.specs.Ready.{Ready}
+use Rattle.transform_halving.specs.Transformable.{Transformable}
 use Rattle.transform_halving.specs.Transform.{transformOf, inverseOf}
-use Rattle.transform_halving.proofs.Ready.{ready-power, ready-short}
+use Rattle.transform_halving.proofs.Transformable.{transformable-power, transformable-short}
 use Rattle.transform_halving.proofs.Round.{Opposite, round}
 use Rattle.transform_halving.proofs.Sums.{values, values-at, values-length, sum-value, sums-values}
 
@@ -96,7 +96,7 @@ scaled-value c n s x e =
     ∘≈ ≈-of (total-scale n (λ j. getD s j 0 * x ^ j) c
     ∙ ap (c *_) (ap (λ (m : ℕ). total m (λ j. getD s j 0 * x ^ j)) (sym e) ∙ sym (plain-sum s x)))
 
-module _ (a : List ℕ) (ready : Ready a) where
+module _ (a : List ℕ) (able : Transformable a) where
   n : ℕ
   n = length a
 
@@ -111,7 +111,7 @@ module _ (a : List ℕ) (ready : Ready a) where
 
   size : n ≡ 2 ^ levelOf n
   unfolding n
-  size = ready-power a ready
+  size = transformable-power a able
 
   pub opposed : Opposite (rootOf (length a)) (inverse (rootOf (length a))) (length a)
   unfolding n rootOf
@@ -120,7 +120,7 @@ module _ (a : List ℕ) (ready : Ready a) where
   -- 1/N times N is one
   unit : c * n ≈ 1
   unfolding c n
-  unit = ≈-of (mul-comm (inverse n) n) ∘≈ inverse-≈ n (λ none. omega (arith, none .mods, size, pow-pos (levelOf n), ready-short a ready))
+  unit = ≈-of (mul-comm (inverse n) n) ∘≈ inverse-≈ n (λ none. omega (arith, none .mods, size, pow-pos (levelOf n), transformable-short a able))
 
   undone : (x y : ℕ) → x ≈ n * y → c * x ≈ y
   undone x y e = c ·≈ e ∘≈ comb (y ·≈ unit) 0 0 (omega arith)
@@ -134,7 +134,7 @@ module _ (a : List ℕ) (ready : Ready a) where
       reduced
       (product-≈ c _ ∘≈ undone _ (getD a j 0) (≈-of (values-at q n (values r n a) j h) ∘≈ mod-≈ _ ∘≈ round r q n opposed a refl j h))
       (product-lt c _)
-      (ready .symbols j h))
+      (able .symbols j h))
       ∙ tab-getD a)
 
   pub transform-undoes : transformOf (inverseOf a) ≡ a
@@ -145,5 +145,5 @@ module _ (a : List ℕ) (ready : Ready a) where
       (tab-ext n _ (λ j. getD a j 0) (λ j h.
       (scaled-value c n (values q n a) (r ^ j) (values-length q n a)
       ∘≈ undone _ (getD a j 0) (round q r n (flipped opposed) a refl j h)) .mods
-      ∙ mod-eq-of-lt (ready .symbols j h))
+      ∙ mod-eq-of-lt (able .symbols j h))
       ∙ tab-getD a)

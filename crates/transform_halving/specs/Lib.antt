@@ -2,5 +2,5 @@ pub mod Transform
 pub mod Halving
 pub mod Order
 pub mod InPlace
-pub mod Ready
+pub mod Transformable
 pub mod Theorems

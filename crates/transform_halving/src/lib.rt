@@ -15,7 +15,7 @@ ghost use Rattle.field.specs.Symbol.{Symbols};
 ghost use Rattle.poly.specs.Tab.{tab};
 ghost use Rattle.transform_halving.specs.InPlace.{joinedHalves, halved};
 ghost use Rattle.transform_halving.specs.Order.{IsNext, arranged, exchanged};
-ghost use Rattle.transform_halving.specs.Ready.{Ready};
+ghost use Rattle.transform_halving.specs.Transformable.{Transformable};
 ghost use Rattle.transform_halving.specs.Transform.{transformOf, inverseOf};
 
 // The place after one in the order of reversed digits: one more, carried from the highest digit down.
@@ -82,7 +82,7 @@ fn join(list: &mut [u32], root: u32)
 
 // "down to size 1, which changes nothing"
 fn halve(list: &mut [u32], root: u32)
-    requires { ⌜ Ready (now list) ⌝ }
+    requires { ⌜ Transformable (now list) ⌝ }
     ensures { λ _. ⌜ now (list .exit) ≡ halved (levelOf (length (now (list .entry)))) root (now (list .entry)) ⌝ }
 {
     if list.len() < 2 {
@@ -106,7 +106,7 @@ pub fn scale(list: &mut [u32], factor: u32)
 }
 
 pub fn transform(list: &mut [u32])
-    requires { ⌜ Ready (now list) ⌝ }
+    requires { ⌜ Transformable (now list) ⌝ }
     ensures { λ _. ⌜ now (list .exit) ≡ transformOf (now (list .entry)) ⌝ }
 {
     let root = root(level(list.len()));
@@ -115,7 +115,7 @@ pub fn transform(list: &mut [u32])
 }
 
 pub fn inverse(list: &mut [u32])
-    requires { ⌜ Ready (now list) ⌝ }
+    requires { ⌜ Transformable (now list) ⌝ }
     ensures { λ _. ⌜ now (list .exit) ≡ inverseOf (now (list .entry)) ⌝ }
 {
     let root = root(level(list.len()));

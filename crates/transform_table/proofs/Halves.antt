@@ -19,9 +19,9 @@ use Rattle.poly.proofs.Every.{every-left, every-right}
 use Rattle.poly.proofs.Symbols.{append-symbols, symbols-at, symbols-every}
 use Rattle.transform_halving.specs.Halving.{joined}
 use Rattle.transform_halving.specs.InPlace.{joinedHalves, halved}
-use Rattle.transform_halving.specs.Ready.{Ready}
+use Rattle.transform_halving.specs.Transformable.{Transformable}
 use Rattle.transform_halving.proofs.Halves.{Pair, pair-of, halved-length, halved-symbols, single-halved}
-use Rattle.transform_halving.proofs.Ready.{ready-of}
+use Rattle.transform_halving.proofs.Transformable.{transformable-of}
 use Rattle.transform_table.specs.Part.{part, replaced}
 use Rattle.transform_table.specs.Turns.{Turns, Tabled}
 use Rattle.transform_table.proofs.Turns.{turns-square, turns-kept, tabled-kept}
@@ -43,7 +43,7 @@ module _ (c : List ℕ) (at size table step : ℕ) (tabled : Tabled c at size ta
   single-by one =
       replaced-self at size c
       ∙ ap (replaced at size c)
-      (single-halved (rootOf size) (part at size c) (tabled .ready) (omega (arith, part-long))
+      (single-halved (rootOf size) (part at size c) (tabled .able) (omega (arith, part-long))
       ∙ ap (λ (n : ℕ). halved (levelOf n) (rootOf size) (part at size c)) part-long)
 
   module _ (many : 2 ≤ size) where
@@ -51,7 +51,7 @@ module _ (c : List ℕ) (at size table step : ℕ) (tabled : Tabled c at size ta
     half = size / 2
 
     p : Pair (part at size c)
-    p = pair-of (part at size c) (tabled .ready) (omega (arith, part-long))
+    p = pair-of (part at size c) (tabled .able) (omega (arith, part-long))
 
     half-is : half ≡ 2 ^ p .k
     half-is = omega (arith, p .half, part-long)
@@ -106,18 +106,18 @@ module _ (c : List ℕ) (at size table step : ℕ) (tabled : Tabled c at size ta
     back-long = part-length (at + half) half c (omega (arith, inside, whole)) ∙ half-is
 
     sides-symbols : Every (_< 65537) (front ++ back)
-    sides-symbols = symbols-every (front ++ back) (subst Symbols sides (tabled .ready .symbols))
+    sides-symbols = symbols-every (front ++ back) (subst Symbols sides (tabled .able .symbols))
 
-    front-ready : Ready front
-    front-ready = ready-of (p .k) (p .few) front front-long (symbols-at front (every-left (_< 65537) front back sides-symbols))
+    front-transformable : Transformable front
+    front-transformable = transformable-of (p .k) (p .few) front front-long (symbols-at front (every-left (_< 65537) front back sides-symbols))
 
-    back-ready : Ready back
-    back-ready = ready-of (p .k) (p .few) back back-long (symbols-at back (every-right (_< 65537) front back sides-symbols))
+    back-transformable : Transformable back
+    back-transformable = transformable-of (p .k) (p .few) back back-long (symbols-at back (every-right (_< 65537) front back sides-symbols))
 
     -- what the first call is given
     pub first-tabled : Tabled c at half table (2 * step)
     unfolding front
-    first-tabled = record { apart = omega (arith, tabled .apart); inside = halves-inside; ready = front-ready; turns = half-turns }
+    first-tabled = record { apart = omega (arith, tabled .apart); inside = halves-inside; able = front-transformable; turns = half-turns }
 
     -- and what the halves become
     halved-half : List ℕ → List ℕ
@@ -147,7 +147,7 @@ module _ (c : List ℕ) (at size table step : ℕ) (tabled : Tabled c at size ta
           record {
             apart = omega (arith, tabled .apart, whole);
             inside = rw (front-done, replaced-length at half c near (halved-half front) (half-long front front-long)) halves-inside;
-            ready = subst Ready (sym back-same) back-ready;
+            able = subst Transformable (sym back-same) back-transformable;
             turns =
                 subst (Turns (rootOf half) table (half / 2) (2 * step)) (sym front-done)
                 (turns-kept at half c near (halved-half front) (half-long front front-long) (rootOf half) table (half / 2) (2 * step) (omega (arith, tabled .apart)) half-turns);
@@ -180,8 +180,8 @@ module _ (c : List ℕ) (at size table step : ℕ) (tabled : Tabled c at size ta
         unfolding both halved-half
         both-symbols =
             append-symbols (halved-half front) (halved-half back)
-            (halved-symbols (levelOf half) (rootOf half) front (front-ready .symbols))
-            (halved-symbols (levelOf half) (rootOf half) back (back-ready .symbols))
+            (halved-symbols (levelOf half) (rootOf half) front (front-transformable .symbols))
+            (halved-symbols (levelOf half) (rootOf half) back (back-transformable .symbols))
 
         wide-tabled : Tabled c at (half + half) table step
         wide-tabled = subst (λ (n : ℕ). Tabled c at n table step) (sym whole) tabled
@@ -190,7 +190,7 @@ module _ (c : List ℕ) (at size table step : ℕ) (tabled : Tabled c at size ta
         both-tabled =
             subst (λ (l : List ℕ). Tabled l at (half + half) table step) (sym both-done)
             (tabled-kept at (half + half) c wide both both-long table step wide-tabled
-            (ready-of (suc (p .k)) (omega (arith, level, level-le size)) both (omega (arith, both-long, half-is)) both-symbols))
+            (transformable-of (suc (p .k)) (omega (arith, level, level-le size)) both (omega (arith, both-long, half-is)) both-symbols))
 
         halves-joined : joined (rootOf size) (halved-half front) (halved-half back) ≡ done
         unfolding halved halved-half

@@ -17,7 +17,7 @@ use Rattle.poly.specs.Tab.{tab}
 use Rattle.poly.specs.Value.{value}
 use Rattle.poly.proofs.Tab.{tab-ext}
 use Rattle.poly.proofs.Values.{value-≈}
-use Rattle.transform_halving.specs.Ready.{Ready}
+use Rattle.transform_halving.specs.Transformable.{Transformable}
 use Rattle.transform_halving.specs.Transform.{sums, transformOf}
 use Rattle.transform_halving.proofs.Arranging.{Paired, Arranging, arranging-all}
 use Rattle.transform_halving.proofs.Round.{Opposite}
@@ -87,9 +87,9 @@ power-back r q n o (suc i) h =
     whole : r ^ n ≡ r ^ (n - j) * r ^ j
     whole = ap (r ^_) {x = n} {y = n - j + j} (omega arith) ∙ pow-add r (n - j) j
 
-pub sums-back : (a : List ℕ) → Ready a → sums (inverse (rootOf (length a))) a ≡ turnedRound (transformOf a)
+pub sums-back : (a : List ℕ) → Transformable a → sums (inverse (rootOf (length a))) a ≡ turnedRound (transformOf a)
 unfolding turnedRound values
-sums-back a ready =
+sums-back a able =
     sums-values (inverse (rootOf (length a))) a
     ∙ tab-ext (length a) _ _ entry
     ∙ ap (λ (n : ℕ). tab n (λ j. getD (transformOf a) (mirror n j) 0)) (sym (transform-length a))
@@ -97,6 +97,6 @@ sums-back a ready =
     entry : (j : ℕ) → j < length a
         → value a (inverse (rootOf (length a)) ^ j) % 65537 ≡ getD (transformOf a) (mirror (length a) j) 0
     entry j h =
-        value-≈ a (power-back _ _ _ (opposed a ready) j h) .mods
+        value-≈ a (power-back _ _ _ (opposed a able) j h) .mods
         ∙ sym (values-at (rootOf (length a)) (length a) a (mirror (length a) j) (mirror-lt (length a) j h))
         ∙ ap (λ (l : List ℕ). getD l (mirror (length a) j) 0) (sym (transform-values a))

@@ -10,9 +10,9 @@ use Rattle.field.specs.Points.{rootOf}
 use Rattle.field.specs.Size.{levelOf}
 use Rattle.transform_halving.specs.InPlace.{halved}
 use Rattle.transform_halving.specs.Order.{arranged}
-use Rattle.transform_halving.specs.Ready.{Ready}
+use Rattle.transform_halving.specs.Transformable.{Transformable}
 use Rattle.transform_halving.specs.Transform.{sums, transformOf}
-use Rattle.transform_halving.proofs.Steps.{arranged-length, arranged-ready, transform-steps}
+use Rattle.transform_halving.proofs.Steps.{arranged-length, arranged-transformable, transform-steps}
 use Rattle.transform_halving.proofs.Undo.{transform-length}
 use Rattle.transform_table.specs.Part.{part, replaced}
 use Rattle.transform_table.specs.Round.{turnedRound}
@@ -39,12 +39,12 @@ module _ (c : List ℕ) (at size table step : ℕ) (tabled : Tabled c at size ta
   unfolding d
   d-long = part-length at size c inside
 
-  d-ready : Ready d
+  d-transformable : Transformable d
   unfolding d
-  d-ready = tabled .ready
+  d-transformable = tabled .able
 
-  pub lent-ready : Ready (lent at size c)
-  lent-ready = subst Ready (sym (lent-part at size c)) (tabled .ready)
+  pub lent-transformable : Transformable (lent at size c)
+  lent-transformable = subst Transformable (sym (lent-part at size c)) (tabled .able)
 
   -- s is the part arranged
   module _ (s : List ℕ) (one : s ≡ arranged (lent at size c)) where
@@ -53,12 +53,12 @@ module _ (c : List ℕ) (at size table step : ℕ) (tabled : Tabled c at size ta
     s-is = one ∙ ap arranged (lent-part at size c)
 
     s-long : length s ≡ size
-    s-long = ap length s-is ∙ arranged-length d d-ready ∙ d-long
+    s-long = ap length s-is ∙ arranged-length d d-transformable ∙ d-long
 
     pub arranged-tabled : Tabled (returned at size c s) at size table step
     arranged-tabled =
         subst (λ (l : List ℕ). Tabled l at size table step) (sym (returned-part at size c s))
-        (tabled-kept at size c inside s s-long table step tabled (subst Ready (sym s-is) (arranged-ready d d-ready)))
+        (tabled-kept at size c inside s s-long table step tabled (subst Transformable (sym s-is) (arranged-transformable d d-transformable)))
 
     -- t is the slice with that part halved
     pub transformed : (t : List ℕ)
@@ -71,7 +71,7 @@ module _ (c : List ℕ) (at size table step : ℕ) (tabled : Tabled c at size ta
         ∙ replaced-twice at size c inside s s-long (halved (levelOf size) (rootOf size) (part at size (replaced at size c s)))
         ∙ ap (replaced at size c)
         (ap (halved (levelOf size) (rootOf size)) (replaced-part at size c inside s s-long)
-        ∙ transform-steps d d-ready (rootOf size) s (halved (levelOf size) (rootOf size) s) (ap rootOf (sym d-long)) s-is (ap (λ (n : ℕ). halved (levelOf n) (rootOf size) s) (sym s-long)))
+        ∙ transform-steps d d-transformable (rootOf size) s (halved (levelOf size) (rootOf size) s) (ap rootOf (sym d-long)) s-is (ap (λ (n : ℕ). halved (levelOf n) (rootOf size) s) (sym s-long)))
 
   -- t is the slice with the part transformed, and u that part turned round
   pub turned-back : (t u : List ℕ) → t ≡ replaced at size c (transformOf (part at size c)) → u ≡ turnedRound (lent at size t)
@@ -84,7 +84,7 @@ module _ (c : List ℕ) (at size table step : ℕ) (tabled : Tabled c at size ta
       ∙ ap (replaced at size c)
       (two
       ∙ ap turnedRound (lent-part at size t ∙ ap (part at size) one ∙ replaced-part at size c inside (transformOf d) long)
-      ∙ sym (sums-back d d-ready)
+      ∙ sym (sums-back d d-transformable)
       ∙ ap (λ (n : ℕ). sums (inverse (rootOf n)) d) d-long)
     where
       long : length (transformOf d) ≡ size

@@ -9,7 +9,7 @@ use lib.ListN.{length, getD, List·getD-eq-default}
 use Rattle.field.specs.Field.{product}
 use Rattle.field.specs.Points.{rootOf}
 use Rattle.field.proofs.Ring.{power-zero, power-plus, power-product}
-use Rattle.transform_halving.specs.Ready.{Ready}
+use Rattle.transform_halving.specs.Transformable.{Transformable}
 use Rattle.transform_table.specs.Part.{replaced}
 use Rattle.transform_table.specs.Turns.{Turns, Tabled}
 use Rattle.transform_table.proofs.Part.{replaced-length, replaced-part, replaced-past}
@@ -46,11 +46,11 @@ module _ (at size : ℕ) (c : List ℕ) (h : at + size ≤ length c) (new : List
   turns-kept root table count step apart turns =
       record { is = λ j l. replaced-past at size c h new long (table + j * step) (omega arith) ∙ turns .is j l }
 
-  pub tabled-kept : (table step : ℕ) → Tabled c at size table step → Ready new → Tabled (replaced at size c new) at size table step
-  tabled-kept table step tabled ready =
+  pub tabled-kept : (table step : ℕ) → Tabled c at size table step → Transformable new → Tabled (replaced at size c new) at size table step
+  tabled-kept table step tabled able =
       record {
         apart = tabled .apart;
         inside = rw (replaced-length at size c h new long) (tabled .inside);
-        ready = rw (replaced-part at size c h new long) ready;
+        able = rw (replaced-part at size c h new long) able;
         turns = turns-kept (rootOf size) table (size / 2) step (tabled .apart) (tabled .turns);
       }

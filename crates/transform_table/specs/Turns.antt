@@ -5,7 +5,7 @@ use Prim.Native.Nat.{ℕ, _+_, _*_, _/_, _<_, _≤_}
 use lib.ListN.{length, getD}
 use Rattle.field.specs.Field.{power}
 use Rattle.field.specs.Points.{rootOf}
-use Rattle.transform_halving.specs.Ready.{Ready}
+use Rattle.transform_halving.specs.Transformable.{Transformable}
 use Rattle.transform_table.specs.Part.{part}
 
 -- from `at` on, every step-th cell holds the next power of the root, `count` of them
@@ -16,5 +16,5 @@ pub record Turns (root at count step : ℕ) (cells : List ℕ) : Type 0 where
 pub record Tabled (cells : List ℕ) (at size table step : ℕ) : Type 0 where
   pub apart : at + size ≤ table
   pub inside : table + size / 2 * step ≤ length cells
-  pub ready : Ready (part at size cells)
+  pub able : Transformable (part at size cells)
   pub turns : Turns (rootOf size) table (size / 2) step cells

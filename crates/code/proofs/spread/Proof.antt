@@ -8,7 +8,7 @@ use borrow.Author.Needs.{needs}
 use lib.ListN.{replicate}
 use Rattle.answers.specs.Leaves.{written}
 use Rattle.code.specs.Rooms.{encodeRoom}
-use Rattle.code.proofs.Spreading.{n-fits, message-fits, still-room, part-ready, word, word-inside, word-fits, cells-length}
+use Rattle.code.proofs.Spreading.{n-fits, message-fits, still-room, part-transformable, word, word-inside, word-fits, cells-length}
 use Rattle.code.proofs.spread.Statement.{statement}
 use Rattle.code.proofs.spread.Tie as tie
 
@@ -36,7 +36,7 @@ spread-spec =
     let laid-out = c .before .before .before in
     let sized = c .before .before .before .before .before in
     let start = c .before .before .before .before .before .before .before .before .before in
-    part-ready (start .args .n) _ (start .args .message .now) (start .args .cells .now) (start .pre .0) (sized .size .ensures) (start .pre .2) (laid-out .lay .last .1 .0) (laid-out .lay .ensures))
+    part-transformable (start .args .n) _ (start .args .message .now) (start .args .cells .now) (start .pre .0) (sized .size .ensures) (start .pre .2) (laid-out .lay .last .1 .0) (laid-out .lay .ensures))
     (λ c. search needs)
     (λ c. search needs)
     (λ c.

@@ -15,8 +15,8 @@ use Rattle.poly.proofs.Sum.{total-ext}
 use Rattle.poly.proofs.Tab.{tab-ext}
 use Rattle.poly.proofs.Window.{window, window-none, window-store, window-before, window-length, window-lead, window-rest}
 use Rattle.decode_between.specs.Between.{psi, folded}
-use Rattle.decode_between.specs.Room.{Room}
-use Rattle.decode_between.proofs.Room.{N-small, inside, room-kept}
+use Rattle.decode_between.specs.Foldable.{Foldable}
+use Rattle.decode_between.proofs.Foldable.{N-small, inside, room-kept}
 use Rattle.decode_between.proofs.fold.Statement.{statement}
 use Rattle.decode_between.proofs.fold.Tie as tie
 
@@ -35,7 +35,7 @@ Inv-loop size step cells₀ i₀ cells i = Turn size step cells₀ cells i
 abbrev μ-loop : tie.MeasureT-loop
 μ-loop size step cells₀ i₀ cells i = step - i
 
-module _ (N K : ℕ) (d : List ℕ) (room : Room N K d) where
+module _ (N K : ℕ) (d : List ℕ) (room : Foldable N K d) where
   begun : Turn N K d d 0
   begun = record { some = omega arith; is = window-none N (column N K d) d }
 
@@ -43,7 +43,7 @@ module _ (N K : ℕ) (d : List ℕ) (room : Room N K d) where
     long : length cells ≡ length d
     long = ap length (t .is) ∙ window-length N i (column N K d) d (omega (arith, t .some, room .K-fits, room .table .long))
 
-    kept : Room N K cells
+    kept : Foldable N K cells
     kept =
         room-kept N K d room cells long
         (ap (take N) (t .is) ∙ window-lead N i (column N K d) d (omega (arith, room .table .long)))

@@ -12,8 +12,8 @@ use Rattle.field.specs.Symbol.{IsSymbol}
 use Rattle.poly.specs.Sum.{total}
 use Rattle.poly.proofs.Sum.{total-more}
 use Rattle.decode_between.specs.Between.{psi}
-use Rattle.decode_between.specs.Room.{Room}
-use Rattle.decode_between.proofs.Room.{N-small, K-some, rows, inside, power-at, term-le}
+use Rattle.decode_between.specs.Foldable.{Foldable}
+use Rattle.decode_between.proofs.Foldable.{N-small, K-some, rows, inside, power-at, term-le}
 use Rattle.decode_between.proofs.fold_one.Statement.{statement}
 use Rattle.decode_between.proofs.fold_one.Tie as tie
 
@@ -33,7 +33,7 @@ Inv-loop size step i cells rows table sum₀ at₀ b₀ sum at b = Turn size ste
 abbrev μ-loop : tie.MeasureT-loop
 μ-loop size step i cells rows table sum₀ at₀ b₀ sum at b = rows - b
 
-module _ (N K i : ℕ) (cells : List ℕ) (room : Room N K cells) (li : i < K) where
+module _ (N K i : ℕ) (cells : List ℕ) (room : Foldable N K cells) (li : i < K) where
   begun : Turn N K i cells 0 i 0
   begun = record { some = omega arith; place = omega arith; is = unfold total in refl; low = omega arith }
 

@@ -2,7 +2,7 @@
 -- Assumes nothing.
 use native.Mathlib.Omega.{arith}
 use borrow.Author.Needs.{needs}
-use Rattle.decode_between.proofs.Room.{K-some}
+use Rattle.decode_between.proofs.Foldable.{K-some}
 use Rattle.decode_between.proofs.Valuing.{transform-asked, transformed}
 use Rattle.decode_between.proofs.values_between.Statement.{statement}
 use Rattle.decode_between.proofs.values_between.Tie as tie

@@ -17,25 +17,25 @@ recover-spec =
     (λ c. search needs)
     (λ c. search needs)
     (λ c.
-    let solved = c .before .before .before .before in
-    let start = solved .before .before .before .before .before .before in
-    omega (arith, (solved .solve .kept .1 .1 .1 .1 .0), cells-enough (start .args .k) (start .args .n) _ (start .pre .0) (start .args .cells .now) (start .pre .2)))
+    let found = c .before .before .before .before in
+    let start = found .before .before .before .before .before .before in
+    omega (arith, (found .find-message .kept .1 .1 .1 .1 .0), cells-enough (start .args .k) (start .args .n) _ (start .pre .0) (start .args .cells .now) (start .pre .2)))
     (λ c κs.
     let start = c .before .before .before .before .before .before .before .before .before .before .before .before in
-    omega (arith, length-take (start .args .k - 0) (c .before .before .before .before .before .before .solve .last .1 .1 .1 .1 .0), start .pre .1))
+    omega (arith, length-take (start .args .k - 0) (c .before .before .before .before .before .before .find-message .last .1 .1 .1 .1 .0), start .pre .1))
     (λ c κs. search needs)
     (λ c. c .before .before .before .before .before .before .copy .kept .1 .0)
-    (λ c. c .before .before .clear .kept .0 ∙ c .before .before .before .before .before .before .before .before .before .before .before .before .before .solve .kept .1 .1 .1 .1 .0)
+    (λ c. c .before .before .clear .kept .0 ∙ c .before .before .before .before .before .before .before .before .before .before .before .before .before .find-message .kept .1 .1 .1 .1 .0)
     (λ c.
     let cleared = c .before .before in
     let copied = c .before .before .before .before .before .before in
-    let solved = c .before .before .before .before .before .before .before .before .before .before .before .before .before in
-    let start = solved .before .before .before .before .before .before in
-    recovered (start .args .k) (start .args .n) _ (start .args .out .now) (start .args .cells .now) (solved .solve .last .1 .1 .1 .1 .0) (cleared .clear .last .0) (start .pre .2) (solved .solve .kept .1 .1 .1 .1 .0) (cleared .clear .ensures) _ _ (solved .solve .ensures) (c .before .before .before .before .before .before .before .before .before .before .if1 .taken) (copied .copy .ensures))
+    let found = c .before .before .before .before .before .before .before .before .before .before .before .before .before in
+    let start = found .before .before .before .before .before .before in
+    recovered (start .args .k) (start .args .n) _ (start .args .out .now) (start .args .cells .now) (found .find-message .last .1 .1 .1 .1 .0) (cleared .clear .last .0) (start .pre .2) (found .find-message .kept .1 .1 .1 .1 .0) (cleared .clear .ensures) _ _ (found .find-message .ensures) (c .before .before .before .before .before .before .before .before .before .before .if1 .taken) (copied .copy .ensures))
     (λ c κs. search needs)
-    (λ c. c .before .before .clear2 .kept .0 ∙ c .before .before .before .before .before .before .before .solve .kept .1 .1 .1 .1 .0)
+    (λ c. c .before .before .clear2 .kept .0 ∙ c .before .before .before .before .before .before .before .find-message .kept .1 .1 .1 .1 .0)
     (λ c.
     let cleared = c .before .before in
-    let solved = c .before .before .before .before .before .before .before in
-    let start = solved .before .before .before .before .before .before in
-    disagreed (start .args .k) (start .args .n) _ (start .args .out .now) (start .args .cells .now) (solved .solve .last .1 .1 .1 .1 .0) (cleared .clear2 .last .0) (start .pre .2) (solved .solve .kept .1 .1 .1 .1 .0) (cleared .clear2 .ensures) _ (solved .solve .ensures) (c .before .before .before .before .if1 .left)))
+    let found = c .before .before .before .before .before .before .before in
+    let start = found .before .before .before .before .before .before in
+    disagreed (start .args .k) (start .args .n) _ (start .args .out .now) (start .args .cells .now) (found .find-message .last .1 .1 .1 .1 .0) (cleared .clear2 .last .0) (start .pre .2) (found .find-message .kept .1 .1 .1 .1 .0) (cleared .clear2 .ensures) _ (found .find-message .ensures) (c .before .before .before .before .if1 .left)))

@@ -2,7 +2,7 @@
 -- Assumes nothing.
 use native.Mathlib.Omega.{arith}
 use borrow.Author.Needs.{needs}
-use Rattle.decode_between.proofs.Room.{K-some, N-small}
+use Rattle.decode_between.proofs.Foldable.{K-some, N-small}
 use Rattle.decode_divide.proofs.Quotienting.{divide-asked, back-asked, untwist-asked, front-is, rest-is}
 use Rattle.decode_divide.proofs.quotient.Statement.{statement}
 use Rattle.decode_divide.proofs.quotient.Tie as tie

@@ -9,8 +9,8 @@ use borrow.Author.Needs.{needs}
 use lib.ListN.{length, getD, drop, set}
 use Rattle.poly.specs.Tab.{tab}
 use Rattle.poly.proofs.Window.{window, window-none, window-store, window-past, window-length, window-rest}
-use Rattle.decode_between.specs.Room.{Table}
-use Rattle.decode_between.proofs.Room.{table-kept}
+use Rattle.decode_between.specs.Foldable.{PsiTable}
+use Rattle.decode_between.proofs.Foldable.{table-kept}
 use Rattle.decode_divide.specs.Quotients.{untwisted}
 use Rattle.decode_divide.proofs.untwist.Statement.{statement}
 use Rattle.decode_divide.proofs.untwist.Tie as tie
@@ -27,7 +27,7 @@ Inv-loop k size cells₀ i₀ cells i = Turn size k cells₀ cells i
 abbrev μ-loop : tie.MeasureT-loop
 μ-loop k size cells₀ i₀ cells i = k - i
 
-module _ (N k : ℕ) (d : List ℕ) (pre : Table N d × (k ≤ N) × (getD d N 0 < 65537)) where
+module _ (N k : ℕ) (d : List ℕ) (pre : PsiTable N d × (k ≤ N) × (getD d N 0 < 65537)) where
   f : ℕ → ℕ
   f = untwisted N (drop N d)
 
@@ -35,7 +35,7 @@ module _ (N k : ℕ) (d : List ℕ) (pre : Table N d × (k ≤ N) × (getD d N 0
     rest : (m : ℕ) → i ≤ m → drop m cells ≡ drop m d
     rest m l = ap (drop m) (t .is) ∙ window-rest 0 i m (untwisted N (drop N d)) d (omega arith) (omega arith)
 
-    one : i < k → Table N cells × (i < N) × (getD cells N 0 < 65537)
+    one : i < k → PsiTable N cells × (i < N) × (getD cells N 0 < 65537)
     one l = (
       table-kept N d (pre .0) cells (t .long) (rest (3 * N) (omega (arith, pre .1))),
       omega (arith, pre .1),

@@ -13,14 +13,14 @@ use Rattle.field.specs.Field.{difference, product, power}
 use Rattle.field.proofs.Congruence.{≈-of, reduced}
 use Rattle.field.proofs.Ring.{difference-lt}
 use Rattle.decode_between.specs.Between.{psi}
-use Rattle.decode_between.specs.Room.{Table}
-use Rattle.decode_between.proofs.Room.{power-at, size-N, N-small}
+use Rattle.decode_between.specs.Foldable.{PsiTable}
+use Rattle.decode_between.proofs.Foldable.{power-at, size-N, N-small}
 use Rattle.decode_divide.specs.Quotients.{untwisted}
 use Rattle.decode_divide.proofs.Untwisting.{untwist}
 use Rattle.decode_divide.proofs.untwist_one.Statement.{statement}
 use Rattle.decode_divide.proofs.untwist_one.Tie as tie
 
-module _ (N i : ℕ) (d : List ℕ) (table : Table N d) (inside : i < N) where
+module _ (N i : ℕ) (d : List ℕ) (table : PsiTable N d) (inside : i < N) where
   at-zero : i ≡ 0 → getD d N 0 < 65537 → getD d N 0 ≡ untwisted N (drop N d) i
   unfolding untwisted
   at-zero none small =

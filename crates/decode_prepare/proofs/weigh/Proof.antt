@@ -2,7 +2,7 @@
 -- Assumes nothing.
 use native.Mathlib.Omega.{arith}
 use borrow.Author.Needs.{needs}
-use Rattle.decode_between.proofs.Room.{N-small}
+use Rattle.decode_between.proofs.Foldable.{N-small}
 use Rattle.decode_prepare.proofs.Weighing.{invert-asked, transform-asked, weighed, inverses-are, powers-stay}
 use Rattle.decode_prepare.proofs.weigh.Statement.{statement}
 use Rattle.decode_prepare.proofs.weigh.Tie as tie

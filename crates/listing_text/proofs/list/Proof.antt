@@ -21,14 +21,14 @@ list-spec =
     let cleared = c .before .before .before .before .before in
     let judged = cleared .before .before .before .before in
     let start = judged .before .before .before .before .before in
-    let good = whole-good (start .args .input .now) (start .args .text .now) (start .args .work .now) _ _ (judged .judge .kept .1 .0) (cleared .clear .ensures) _ (judged .judge .ensures) (c .before .enum-told .given .1) in
+    let good = whole-good (start .args .input .now) (start .args .text .now) (start .args .work .now) _ _ (judged .program-answer .kept .1 .0) (cleared .clear .ensures) _ (judged .program-answer .ensures) (c .before .enum-told .given .1) in
     (good .0, omega (arith, good .1, start .pre .0)))
     (λ c κs.
     let listed = c .before .before .before in
     let cleared = listed .before .before .before .before .before .before in
     let judged = cleared .before .before .before .before in
     let start = judged .before .before .before .before .before in
-    let good = whole-good (start .args .input .now) (start .args .text .now) (start .args .work .now) _ _ (judged .judge .kept .1 .0) (cleared .clear .ensures) _ (judged .judge .ensures) (listed .before .before .enum-told .given .1) in
+    let good = whole-good (start .args .input .now) (start .args .text .now) (start .args .work .now) _ _ (judged .program-answer .kept .1 .0) (cleared .clear .ensures) _ (judged .program-answer .ensures) (listed .before .before .enum-told .given .1) in
     omega (arith, good .1, start .pre .0, listed .put-listing .ensures .ends, listed .put-listing .ensures .short, listed .put-listing .kept .1 .0))
     (λ c. search needs)
     (λ c κs. search needs)
@@ -42,13 +42,13 @@ list-spec =
     let cleared = tested .before .before .before .before .before .before .before in
     let judged = cleared .before .before .before .before in
     let start = judged .before .before .before .before .before in
-    alone-leaves (start .args .input .now) (start .args .text .now) (start .args .work .now) _ _ (judged .judge .kept .1 .0) (cleared .clear .ensures) _ (judged .judge .ensures) _ _ _ (tested .before .before .before .answer .given .1) (tested .before .number .ensures) (tested .alone .ensures) _ (put .before .before .if1 .taken) (put .put-refused .ensures))
+    alone-leaves (start .args .input .now) (start .args .text .now) (start .args .work .now) _ _ (judged .program-answer .kept .1 .0) (cleared .clear .ensures) _ (judged .program-answer .ensures) _ _ _ (tested .before .before .before .answer .given .1) (tested .before .number .ensures) (tested .alone .ensures) _ (put .before .before .if1 .taken) (put .put-refused .ensures))
     (λ c κs.
     let tested = c .before .before in
     let cleared = tested .before .before .before .before .before .before .before in
     let judged = cleared .before .before .before .before in
     let start = judged .before .before .before .before .before in
-    let good = partly-good (start .args .input .now) (start .args .text .now) (start .args .work .now) _ _ (judged .judge .kept .1 .0) (cleared .clear .ensures) _ (judged .judge .ensures) _ _ _ (tested .before .before .before .answer .given .1) (tested .before .number .ensures) (tested .alone .ensures) (c .before .if1 .left) in
+    let good = partly-good (start .args .input .now) (start .args .text .now) (start .args .work .now) _ _ (judged .program-answer .kept .1 .0) (cleared .clear .ensures) _ (judged .program-answer .ensures) _ _ _ (tested .before .before .before .answer .given .1) (tested .before .number .ensures) (tested .alone .ensures) (c .before .if1 .left) in
     (good .0, omega (arith, good .1, start .pre .0)))
     (λ c κs.
     let listed = c .before .before .before in
@@ -56,7 +56,7 @@ list-spec =
     let cleared = tested .before .before .before .before .before .before .before in
     let judged = cleared .before .before .before .before in
     let start = judged .before .before .before .before .before in
-    let good = partly-good (start .args .input .now) (start .args .text .now) (start .args .work .now) _ _ (judged .judge .kept .1 .0) (cleared .clear .ensures) _ (judged .judge .ensures) _ _ _ (tested .before .before .before .answer .given .1) (tested .before .number .ensures) (tested .alone .ensures) (listed .before .before .if1 .left) in
+    let good = partly-good (start .args .input .now) (start .args .text .now) (start .args .work .now) _ _ (judged .program-answer .kept .1 .0) (cleared .clear .ensures) _ (judged .program-answer .ensures) _ _ _ (tested .before .before .before .answer .given .1) (tested .before .number .ensures) (tested .alone .ensures) (listed .before .before .if1 .left) in
     omega (arith, good .1, start .pre .0, listed .put-listing2 .ensures .ends, listed .put-listing2 .ensures .short, listed .put-listing2 .kept .1 .0))
     (λ c. search needs)
     (λ c. search needs)
@@ -66,7 +66,7 @@ list-spec =
     let cleared = listed .before .before .before .before .before .before in
     let judged = cleared .before .before .before .before in
     let start = judged .before .before .before .before .before in
-    whole-leaves (start .args .input .now) (start .args .text .now) (start .args .work .now) _ _ (judged .judge .kept .1 .0) (cleared .clear .ensures) _ (judged .judge .ensures) (listed .before .before .enum-told .given .1) _ (puts-more zero-le (listed .put-listing .ensures) (ok .put-ok .ensures)))
+    whole-leaves (start .args .input .now) (start .args .text .now) (start .args .work .now) _ _ (judged .program-answer .kept .1 .0) (cleared .clear .ensures) _ (judged .program-answer .ensures) (listed .before .before .enum-told .given .1) _ (puts-more zero-le (listed .put-listing .ensures) (ok .put-ok .ensures)))
     (λ c. search needs)
     (λ c. search needs)
     (λ c.
@@ -76,4 +76,4 @@ list-spec =
     let cleared = tested .before .before .before .before .before .before .before in
     let judged = cleared .before .before .before .before in
     let start = judged .before .before .before .before .before in
-    partly-leaves (start .args .input .now) (start .args .text .now) (start .args .work .now) _ _ (judged .judge .kept .1 .0) (cleared .clear .ensures) _ (judged .judge .ensures) _ _ _ (tested .before .before .before .answer .given .1) (tested .before .number .ensures) (tested .alone .ensures) _ (listed .before .before .if1 .left) (puts-more zero-le (listed .put-listing2 .ensures) (put .put-refused2 .ensures))))
+    partly-leaves (start .args .input .now) (start .args .text .now) (start .args .work .now) _ _ (judged .program-answer .kept .1 .0) (cleared .clear .ensures) _ (judged .program-answer .ensures) _ _ _ (tested .before .before .before .answer .given .1) (tested .before .number .ensures) (tested .alone .ensures) _ (listed .before .before .if1 .left) (puts-more zero-le (listed .put-listing2 .ensures) (put .put-refused2 .ensures))))

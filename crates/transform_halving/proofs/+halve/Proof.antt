@@ -8,7 +8,7 @@ use borrow.Fn.Kinds.{In}
 use borrow.Fn.PlainCycle.{Measures, is, falls, and}
 use lib.ListN.{length}
 use Rattle.field.proofs.product.Reads as product-reads
-use Rattle.transform_halving.proofs.Halves.{first-ready, first-less, second-ready, second-less, after-length, after-ready, after-joined, single-halved}
+use Rattle.transform_halving.proofs.Halves.{first-transformable, first-less, second-transformable, second-less, after-length, after-transformable, after-joined, single-halved}
 use Rattle.transform_halving.proofs.join.Reads as join-reads
 use Rattle.transform_halving.proofs.halve.Reads as halve
 use Rattle.transform_halving.proofs.halve.Kinds as halve-kinds
@@ -43,7 +43,7 @@ pub +halve-spec : {M : Type 1} → statement M
     let test = c .before .before in
     let start = test .before .before in (
       lt-of-lt-of-le (first-less _ (start .pre .1) (test .if1 .left)) (le-of-eq (start .pre .0)),
-      first-ready _ (start .pre .1) (test .if1 .left),
+      first-transformable _ (start .pre .1) (test .if1 .left),
     ))
     (λ c. search needs)
     (λ c. search needs)
@@ -54,14 +54,14 @@ pub +halve-spec : {M : Type 1} → statement M
     let test = first .before .before .before in
     let start = test .before .before in (
       lt-of-lt-of-le (second-less _ (start .pre .1) (test .if1 .left) (first .halve .last .0) (first .halve .kept .0)) (le-of-eq (start .pre .0)),
-      second-ready _ (start .pre .1) (test .if1 .left) (first .halve .last .0) (first .halve .kept .0),
+      second-transformable _ (start .pre .1) (test .if1 .left) (first .halve .last .0) (first .halve .kept .0),
     ))
     (λ c κs.
     let second = c .before .before .before in
     let first = second .before .before .before .before in
     let square = first .before .before in
     let start = square .before .before .before in
-    after-ready _ (start .pre .1) (square .before .if1 .left) (first .halve .last .0) (first .halve .kept .0) (second .halve2 .last .0) (second .halve2 .kept .0) (start .args .root) _ (square .product .ensures .is) (first .halve .ensures) (second .halve2 .ensures))
+    after-transformable _ (start .pre .1) (square .before .if1 .left) (first .halve .last .0) (first .halve .kept .0) (second .halve2 .last .0) (second .halve2 .kept .0) (start .args .root) _ (square .product .ensures .is) (first .halve .ensures) (second .halve2 .ensures))
     (λ c.
     let second = c .before .before .before .before .before .before in
     let first = second .before .before .before .before in

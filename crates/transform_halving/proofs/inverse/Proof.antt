@@ -6,9 +6,9 @@ use borrow.Author.Needs.{needs}
 use Rattle.field.specs.Field.{inverse}
 use Rattle.field.specs.Points.{rootOf}
 use Rattle.field.specs.Roots.{root}
-use Rattle.transform_halving.specs.Ready.{Ready}
-use Rattle.transform_halving.proofs.Ready.{ready-short}
-use Rattle.transform_halving.proofs.Steps.{arranged-ready, inverse-steps}
+use Rattle.transform_halving.specs.Transformable.{Transformable}
+use Rattle.transform_halving.proofs.Transformable.{transformable-short}
+use Rattle.transform_halving.proofs.Steps.{arranged-transformable, inverse-steps}
 use Rattle.transform_halving.proofs.inverse.Statement.{statement}
 use Rattle.transform_halving.proofs.inverse.Tie as tie
 
@@ -20,12 +20,12 @@ inverse-spec =
     (λ c κs. search needs)
     (λ c κs. search needs)
     (λ c κs. search needs)
-    (λ c. omega (arith, ready-short _ (c .before .before .before .before .pre)))
+    (λ c. omega (arith, transformable-short _ (c .before .before .before .before .pre)))
     (λ c κs. search needs)
     (λ c κs. c .before .before .before .before .before .before .pre .size)
     (λ c κs.
     let arranged = c .before .before .before in
-    subst Ready (sym (arranged .arrange .ensures)) (arranged-ready _ (arranged .before .before .before .before .before .before .before .pre)))
+    subst Transformable (sym (arranged .arrange .ensures)) (arranged-transformable _ (arranged .before .before .before .before .before .before .before .pre)))
     (λ c κs. search needs)
     (λ c. c .before .before .scale .kept .0 ∙ c .before .before .before .before .before .before .halve .kept .0 ∙ c .before .before .before .before .before .before .before .before .before .before .arrange .kept .0)
     (λ c.

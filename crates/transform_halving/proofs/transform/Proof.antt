@@ -4,8 +4,8 @@ use mathlib.Core.Path.{subst, sym, ap, _∙_}
 use borrow.Author.Needs.{needs}
 use Rattle.field.specs.Points.{rootOf}
 use Rattle.field.specs.Roots.{root}
-use Rattle.transform_halving.specs.Ready.{Ready}
-use Rattle.transform_halving.proofs.Steps.{arranged-ready, transform-steps}
+use Rattle.transform_halving.specs.Transformable.{Transformable}
+use Rattle.transform_halving.proofs.Steps.{arranged-transformable, transform-steps}
 use Rattle.transform_halving.proofs.transform.Statement.{statement}
 use Rattle.transform_halving.proofs.transform.Tie as tie
 
@@ -19,7 +19,7 @@ transform-spec =
     (λ c κs. c .before .before .before .before .pre .size)
     (λ c κs.
     let arranged = c .before .before .before in
-    subst Ready (sym (arranged .arrange .ensures)) (arranged-ready _ (arranged .before .before .before .before .before .pre)))
+    subst Transformable (sym (arranged .arrange .ensures)) (arranged-transformable _ (arranged .before .before .before .before .before .pre)))
     (λ c. c .before .before .halve .kept .0 ∙ c .before .before .before .before .before .before .arrange .kept .0)
     (λ c.
     let arranged = c .before .before .before .before .before .before in

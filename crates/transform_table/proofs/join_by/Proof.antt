@@ -69,7 +69,7 @@ module _ (c : List ℕ) (at half table step : ℕ) (tabled : Tabled c at (half +
         at-turn = omega arith;
         whole = refl;
         long = sym d-long;
-        small = tabled .ready .symbols;
+        small = tabled .able .symbols;
         holds = replaced-self at (half + half) c;
         is = joining-none _ half _;
       }

@@ -8,7 +8,7 @@ use native.Mathlib.Omega.{arith}
 use borrow.Author.Needs.{needs}
 use lib.ListN.{length}
 use lib.Seq.{length-front}
-use Rattle.answers.specs.Leaves.{left}
+use Rattle.answers.specs.Leaves.{leaving}
 use Rattle.answers.specs.Refusals.{result}
 use Rattle.answers.proofs.Leaves.{told-done, told-refused, leaves-done, leaves-refused, lent-length, zeroed-part}
 use Rattle.block.specs.Checks.{encodeChecks}
@@ -48,7 +48,7 @@ encode-spec =
     let told = measured .before in
     let start = told .before .before .before .before .before .before in
     let passed = told-done (encodeChecks (start .args .k) (start .args .n) (start .args .message .now) (length (start .args .out .now)) (length (start .args .work .now))) _ (told .before .before .encode-checks .ensures) (told .enum-told .given .1) in
-    ap₂ (left (result [])) (spread .spread .ensures .0)
+    ap₂ (leaving (result [])) (spread .spread .ensures .0)
     (zeroed-part _ _ (start .args .work .now) (measured .encode-room .ensures) (encode-passed (start .args .k) (start .args .n) (start .args .message .now) (length (start .args .out .now)) (length (start .args .work .now)) passed .3) _ (spread .spread .ensures .1))
     ∙ leaves-done (encodeChecks (start .args .k) (start .args .n) (start .args .message .now) (length (start .args .out .now)) (length (start .args .work .now))) _ _ _ passed)
     (λ c.

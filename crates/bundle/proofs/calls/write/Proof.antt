@@ -8,7 +8,7 @@ use native.Mathlib.Omega.{arith}
 use borrow.Author.Needs.{needs}
 use lib.ListN.{length, drop, replicate}
 use lib.Seq.{length-front}
-use Rattle.answers.specs.Leaves.{left, written, zeroed}
+use Rattle.answers.specs.Leaves.{leaving, written, zeroed}
 use Rattle.answers.specs.Refusals.{result}
 use Rattle.answers.proofs.Leaves.{told-done, told-refused, leaves-done, leaves-refused, lent-length, zeroed-part}
 use Rattle.bundle.specs.Checks.{writeChecks}
@@ -20,7 +20,7 @@ use Rattle.bundle.proofs.calls.write.Tie as tie
 -- what stands once the bundle is written: the part of the working space that was lent is e
 done : (bundle out work : List ℕ) (room stated r : ℕ) (o e : List ℕ) → stated ≡ room → room ≤ length work → r ≡ length bundle
     → o ≡ written bundle out → e ≡ replicate room 0
-    → left (result (r ∷ [])) o (e ++ drop (stated - 0) work) ≡ left (result (length bundle ∷ [])) (written bundle out) (zeroed room work)
+    → leaving (result (r ∷ [])) o (e ++ drop (stated - 0) work) ≡ leaving (result (length bundle ∷ [])) (written bundle out) (zeroed room work)
 done bundle out work room stated r o e is enough long all zeros = cc (zeroed-part stated room work is enough e zeros)
 
 pub write-spec : {M : Type 1} → statement M

@@ -7,7 +7,7 @@ use Rattle.field.proofs.Sizes.{size-enough}
 use Rattle.bundle_storage.specs.Blocks.{mostBlocks}
 use Rattle.bundle_layout.proofs.Holding.{limits}
 use Rattle.bundle_layout.proofs.Passing.{bundle-shape-told}
-use Rattle.bundle_file.proofs.Messages.{block-ready, block-word}
+use Rattle.bundle_file.proofs.Messages.{block-transformable, block-word}
 use Rattle.bundle_file.proofs.words.code_block.Statement.{statement}
 use Rattle.bundle_file.proofs.words.code_block.Tie as tie
 
@@ -23,7 +23,7 @@ code-block-spec =
     (λ c κs.
     let laid = c .before .before .before in
     let start = c .before .before .before .before .before .before .before in
-    block-ready (start .args .k) (start .args .file .now) (start .args .b) (start .args .n) (laid .lay-block .last .1 .1 .1 .0) _ (λ i h. omega (arith, c .before .before .before .before .before .before .shared-slice-known .given i)) (bundle-shape-told _ _ _ (start .pre .0) .0) (start .pre .2) (laid .lay-block .ensures))
+    block-transformable (start .args .k) (start .args .file .now) (start .args .b) (start .args .n) (laid .lay-block .last .1 .1 .1 .0) _ (λ i h. omega (arith, c .before .before .before .before .before .before .shared-slice-known .given i)) (bundle-shape-told _ _ _ (start .pre .0) .0) (start .pre .2) (laid .lay-block .ensures))
     (λ c. search needs)
     (λ c.
     let laid = c .before .before .before .before .before .before in

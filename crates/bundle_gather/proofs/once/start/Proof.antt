@@ -7,7 +7,7 @@ use Rattle.field.specs.Size.{sizeOf}
 use Rattle.field.proofs.Sizes.{size-small}
 use Rattle.bundle_layout.proofs.Passing.{header-inside}
 use Rattle.bundle_gather.proofs.Gathering.{cells-long}
-use Rattle.bundle_gather.proofs.Starting.{marks-room, prepare-ready, marked-room, ready-room, laid-start}
+use Rattle.bundle_gather.proofs.Starting.{marks-room, prepare-asked, marked-room, made-room, laid-start}
 use Rattle.bundle_gather.proofs.once.start.Statement.{statement}
 use Rattle.bundle_gather.proofs.once.start.Tie as tie
 
@@ -53,7 +53,7 @@ start-spec =
     let laid = marked .before .before .before .before in
     let sized = laid .before .before in
     let start = sized .before .before .before .before in
-    prepare-ready (start .args .bundle .now) (start .pre .0) _ _ _ (read .k-in .ensures .0) (sized .before .n-in .ensures .0) (sized .size .ensures) (laid .lay-shadows .last .1 .1 .0) (marked .mark-held .last .1 .0) (laid .lay-shadows .kept .1 .1 .0 ∙ cells-long (start .args .bundle .now) (start .pre .0) _ (start .args .cells .now) (sized .size .ensures ∙ ap sizeOf (sized .before .n-in .ensures .0)) (start .pre .2)) (marked .mark-held .ensures) (start .pre .1))
+    prepare-asked (start .args .bundle .now) (start .pre .0) _ _ _ (read .k-in .ensures .0) (sized .before .n-in .ensures .0) (sized .size .ensures) (laid .lay-shadows .last .1 .1 .0) (marked .mark-held .last .1 .0) (laid .lay-shadows .kept .1 .1 .0 ∙ cells-long (start .args .bundle .now) (start .pre .0) _ (start .args .cells .now) (sized .size .ensures ∙ ap sizeOf (sized .before .n-in .ensures .0)) (start .pre .2)) (marked .mark-held .ensures) (start .pre .1))
     (λ c κs.
     let weighed = c .before .before .before in
     let read = weighed .before .before in
@@ -61,7 +61,7 @@ start-spec =
     let laid = marked .before .before .before .before in
     let sized = laid .before .before in
     let start = sized .before .before .before .before in
-    ready-room (start .args .bundle .now) (start .pre .0) _ _ _ (read .k-in .ensures .0) (sized .before .n-in .ensures .0) (sized .size .ensures) (laid .lay-shadows .last .1 .1 .0) (marked .mark-held .last .1 .0) (weighed .prepare .last .1 .1 .0) (laid .lay-shadows .kept .1 .1 .0 ∙ cells-long (start .args .bundle .now) (start .pre .0) _ (start .args .cells .now) (sized .size .ensures ∙ ap sizeOf (sized .before .n-in .ensures .0)) (start .pre .2)) (marked .mark-held .ensures) (laid .lay-shadows .ensures) (weighed .prepare .kept .1 .1 .0))
+    made-room (start .args .bundle .now) (start .pre .0) _ _ _ (read .k-in .ensures .0) (sized .before .n-in .ensures .0) (sized .size .ensures) (laid .lay-shadows .last .1 .1 .0) (marked .mark-held .last .1 .0) (weighed .prepare .last .1 .1 .0) (laid .lay-shadows .kept .1 .1 .0 ∙ cells-long (start .args .bundle .now) (start .pre .0) _ (start .args .cells .now) (sized .size .ensures ∙ ap sizeOf (sized .before .n-in .ensures .0)) (start .pre .2)) (marked .mark-held .ensures) (laid .lay-shadows .ensures) (weighed .prepare .kept .1 .1 .0))
     (λ c.
     let weighed = c .before .before .before .before .before .before in
     let read = weighed .before .before in
@@ -70,7 +70,7 @@ start-spec =
     let sized = laid .before .before in
     let start = sized .before .before .before .before in
     c .before .before .keep-weights .kept .1 .0
-    ∙ ready-room (start .args .bundle .now) (start .pre .0) _ _ _ (read .k-in .ensures .0) (sized .before .n-in .ensures .0) (sized .size .ensures) (laid .lay-shadows .last .1 .1 .0) (marked .mark-held .last .1 .0) (weighed .prepare .last .1 .1 .0) (laid .lay-shadows .kept .1 .1 .0 ∙ cells-long (start .args .bundle .now) (start .pre .0) _ (start .args .cells .now) (sized .size .ensures ∙ ap sizeOf (sized .before .n-in .ensures .0)) (start .pre .2)) (marked .mark-held .ensures) (laid .lay-shadows .ensures) (weighed .prepare .kept .1 .1 .0)
+    ∙ made-room (start .args .bundle .now) (start .pre .0) _ _ _ (read .k-in .ensures .0) (sized .before .n-in .ensures .0) (sized .size .ensures) (laid .lay-shadows .last .1 .1 .0) (marked .mark-held .last .1 .0) (weighed .prepare .last .1 .1 .0) (laid .lay-shadows .kept .1 .1 .0 ∙ cells-long (start .args .bundle .now) (start .pre .0) _ (start .args .cells .now) (sized .size .ensures ∙ ap sizeOf (sized .before .n-in .ensures .0)) (start .pre .2)) (marked .mark-held .ensures) (laid .lay-shadows .ensures) (weighed .prepare .kept .1 .1 .0)
     ∙ sym (cells-long (start .args .bundle .now) (start .pre .0) _ (start .args .cells .now) (sized .size .ensures ∙ ap sizeOf (sized .before .n-in .ensures .0)) (start .pre .2)))
     (λ c.
     let weighed = c .before .before .before .before .before .before in

@@ -8,7 +8,7 @@ use Rattle.answers.specs.declared.refusal.Refusal.the-variants.{Disagree}
 use Rattle.field.proofs.Sizes.{size-small}
 use Rattle.bundle_layout.proofs.Passing.{header-inside}
 use Rattle.bundle_read.proofs.BlockReading.{refused-none, block-message, block-none, bytes-more}
-use Rattle.bundle_read.proofs.Solving.{part-inside, solve-ready, message-there, cells-kept, laid-after, none-decoded, message-decoded, message-good}
+use Rattle.bundle_read.proofs.Finding.{part-inside, divide-asked, message-there, cells-kept, laid-after, none-decoded, message-decoded, message-good}
 use Rattle.bundle_read.proofs.blocks.read_block.Statement.{statement}
 use Rattle.bundle_read.proofs.blocks.read_block.Tie as tie
 
@@ -32,51 +32,51 @@ read-block-spec =
     let gathered = c .before .before .before in
     let sized = gathered .before .before in
     let start = sized .before .before .before .before .before .before in
-    solve-ready (start .args .bundle .now) (start .args .b) (gathered .gather .last .1 .1 .0) (λ i h. omega (arith, sized .before .before .before .before .before .shared-slice-known .given i)) (start .pre .0 .0) (start .pre .0 .2) (gathered .gather .ensures .0) (gathered .gather .ensures .1) _ _ _ _ (sized .before .before .k-in .ensures .0) (sized .before .n-in .ensures .0) (sized .size .ensures) (start .pre .1 .0))
+    divide-asked (start .args .bundle .now) (start .args .b) (gathered .gather .last .1 .1 .0) (λ i h. omega (arith, sized .before .before .before .before .before .shared-slice-known .given i)) (start .pre .0 .0) (start .pre .0 .2) (gathered .gather .ensures .0) (gathered .gather .ensures .1) _ _ _ _ (sized .before .before .k-in .ensures .0) (sized .before .n-in .ensures .0) (sized .size .ensures) (start .pre .1 .0))
     (λ c. search needs)
     (λ c. search needs)
     (λ c.
-    let solved = c .before .before .before .before in
-    let gathered = solved .before .before .before .before in
+    let divided = c .before .before .before .before in
+    let gathered = divided .before .before .before .before in
     let sized = gathered .before .before in
     let start = sized .before .before .before .before .before .before in
-    message-there (start .args .bundle .now) (start .args .b) (gathered .gather .last .1 .1 .0) (λ i h. omega (arith, sized .before .before .before .before .before .shared-slice-known .given i)) (start .pre .0 .0) (start .pre .0 .2) (gathered .gather .ensures .0) (gathered .gather .ensures .1) _ _ _ _ (sized .before .before .k-in .ensures .0) (sized .before .n-in .ensures .0) (sized .size .ensures) (start .pre .1 .0) (solved .solve .last .1 .1 .1 .0) (solved .solve .kept .1 .1 .1 .0))
+    message-there (start .args .bundle .now) (start .args .b) (gathered .gather .last .1 .1 .0) (λ i h. omega (arith, sized .before .before .before .before .before .shared-slice-known .given i)) (start .pre .0 .0) (start .pre .0 .2) (gathered .gather .ensures .0) (gathered .gather .ensures .1) _ _ _ _ (sized .before .before .k-in .ensures .0) (sized .before .n-in .ensures .0) (sized .size .ensures) (start .pre .1 .0) (divided .divide .last .1 .1 .1 .0) (divided .divide .kept .1 .1 .1 .0))
     (λ c κs.
-    let solved = c .before .before .before .before .before .before in
-    let gathered = solved .before .before .before .before in
+    let divided = c .before .before .before .before .before .before in
+    let gathered = divided .before .before .before .before in
     let sized = gathered .before .before in
     let start = sized .before .before .before .before .before .before in
-    ((start .pre .0 .0, start .pre .0 .1), message-good (start .args .bundle .now) (start .args .b) (gathered .gather .last .1 .1 .0) (λ i h. omega (arith, sized .before .before .before .before .before .shared-slice-known .given i)) (start .pre .0 .0) (start .pre .0 .2) (gathered .gather .ensures .0) (gathered .gather .ensures .1) _ _ _ _ (sized .before .before .k-in .ensures .0) (sized .before .n-in .ensures .0) (sized .size .ensures) (start .pre .1 .0) (solved .solve .last .1 .1 .1 .0) (solved .solve .kept .1 .1 .1 .0) _ (solved .solve .ensures .0) (c .before .before .before .if1 .taken)))
+    ((start .pre .0 .0, start .pre .0 .1), message-good (start .args .bundle .now) (start .args .b) (gathered .gather .last .1 .1 .0) (λ i h. omega (arith, sized .before .before .before .before .before .shared-slice-known .given i)) (start .pre .0 .0) (start .pre .0 .2) (gathered .gather .ensures .0) (gathered .gather .ensures .1) _ _ _ _ (sized .before .before .k-in .ensures .0) (sized .before .n-in .ensures .0) (sized .size .ensures) (start .pre .1 .0) (divided .divide .last .1 .1 .1 .0) (divided .divide .kept .1 .1 .1 .0) _ (divided .divide .ensures .0) (c .before .before .before .if1 .taken)))
     (λ c. c .before .before .take-message .kept .1 .1 .1 .0)
     (λ c.
-    let solved = c .before .before .before .before .before .before .before .before .before in
-    let gathered = solved .before .before .before .before in
+    let divided = c .before .before .before .before .before .before .before .before .before in
+    let gathered = divided .before .before .before .before in
     let sized = gathered .before .before in
     let start = sized .before .before .before .before .before .before in
-    cells-kept (start .args .bundle .now) (start .args .b) (gathered .gather .last .1 .1 .0) (λ i h. omega (arith, sized .before .before .before .before .before .shared-slice-known .given i)) (start .pre .0 .0) (start .pre .0 .2) (gathered .gather .ensures .0) (gathered .gather .ensures .1) _ _ _ _ (sized .before .before .k-in .ensures .0) (sized .before .n-in .ensures .0) (sized .size .ensures) (start .pre .1 .0) (solved .solve .last .1 .1 .1 .0) (solved .solve .kept .1 .1 .1 .0) ∙ gathered .gather .kept .1 .1 .0)
+    cells-kept (start .args .bundle .now) (start .args .b) (gathered .gather .last .1 .1 .0) (λ i h. omega (arith, sized .before .before .before .before .before .shared-slice-known .given i)) (start .pre .0 .0) (start .pre .0 .2) (gathered .gather .ensures .0) (gathered .gather .ensures .1) _ _ _ _ (sized .before .before .k-in .ensures .0) (sized .before .n-in .ensures .0) (sized .size .ensures) (start .pre .1 .0) (divided .divide .last .1 .1 .1 .0) (divided .divide .kept .1 .1 .1 .0) ∙ gathered .gather .kept .1 .1 .0)
     (λ c.
-    let solved = c .before .before .before .before .before .before .before .before .before in
-    let gathered = solved .before .before .before .before in
+    let divided = c .before .before .before .before .before .before .before .before .before in
+    let gathered = divided .before .before .before .before in
     let sized = gathered .before .before in
     let start = sized .before .before .before .before .before .before in
-    let decoded = message-decoded (start .args .bundle .now) (start .args .b) (gathered .gather .last .1 .1 .0) (λ i h. omega (arith, sized .before .before .before .before .before .shared-slice-known .given i)) (start .pre .0 .0) (start .pre .0 .2) (gathered .gather .ensures .0) (gathered .gather .ensures .1) _ _ _ _ (sized .before .before .k-in .ensures .0) (sized .before .n-in .ensures .0) (sized .size .ensures) (start .pre .1 .0) (solved .solve .last .1 .1 .1 .0) (solved .solve .kept .1 .1 .1 .0) _ (solved .solve .ensures .0) (c .before .before .before .before .before .before .if1 .taken) in (
+    let decoded = message-decoded (start .args .bundle .now) (start .args .b) (gathered .gather .last .1 .1 .0) (λ i h. omega (arith, sized .before .before .before .before .before .shared-slice-known .given i)) (start .pre .0 .0) (start .pre .0 .2) (gathered .gather .ensures .0) (gathered .gather .ensures .1) _ _ _ _ (sized .before .before .k-in .ensures .0) (sized .before .n-in .ensures .0) (sized .size .ensures) (start .pre .1 .0) (divided .divide .last .1 .1 .1 .0) (divided .divide .kept .1 .1 .1 .0) _ (divided .divide .ensures .0) (c .before .before .before .before .before .before .if1 .taken) in (
       block-message (start .args .bundle .now) (start .args .b) _ _ decoded (c .before .before .take-message .ensures .0),
       (
-        laid-after (start .args .bundle .now) (start .args .b) (gathered .gather .last .1 .1 .0) (λ i h. omega (arith, sized .before .before .before .before .before .shared-slice-known .given i)) (start .pre .0 .0) (start .pre .0 .2) (gathered .gather .ensures .0) (gathered .gather .ensures .1) _ _ _ _ (sized .before .before .k-in .ensures .0) (sized .before .n-in .ensures .0) (sized .size .ensures) (start .pre .1 .0) (solved .solve .last .1 .1 .1 .0) (solved .solve .kept .1 .1 .1 .0) (solved .solve .ensures .1),
+        laid-after (start .args .bundle .now) (start .args .b) (gathered .gather .last .1 .1 .0) (λ i h. omega (arith, sized .before .before .before .before .before .shared-slice-known .given i)) (start .pre .0 .0) (start .pre .0 .2) (gathered .gather .ensures .0) (gathered .gather .ensures .1) _ _ _ _ (sized .before .before .k-in .ensures .0) (sized .before .n-in .ensures .0) (sized .size .ensures) (start .pre .1 .0) (divided .divide .last .1 .1 .1 .0) (divided .divide .kept .1 .1 .1 .0) (divided .divide .ensures .1),
         λ done before. bytes-more (start .args .bundle .now) (start .args .b) (length (start .args .file .now)) _ _ _ decoded (c .before .before .take-message .ensures .1 done) before,
       ),
     ))
     (λ c.
-    let solved = c .before .before .before in
-    let gathered = solved .before .before .before .before in
+    let divided = c .before .before .before in
+    let gathered = divided .before .before .before .before in
     let sized = gathered .before .before in
     let start = sized .before .before .before .before .before .before in
-    cells-kept (start .args .bundle .now) (start .args .b) (gathered .gather .last .1 .1 .0) (λ i h. omega (arith, sized .before .before .before .before .before .shared-slice-known .given i)) (start .pre .0 .0) (start .pre .0 .2) (gathered .gather .ensures .0) (gathered .gather .ensures .1) _ _ _ _ (sized .before .before .k-in .ensures .0) (sized .before .n-in .ensures .0) (sized .size .ensures) (start .pre .1 .0) (solved .solve .last .1 .1 .1 .0) (solved .solve .kept .1 .1 .1 .0) ∙ gathered .gather .kept .1 .1 .0)
+    cells-kept (start .args .bundle .now) (start .args .b) (gathered .gather .last .1 .1 .0) (λ i h. omega (arith, sized .before .before .before .before .before .shared-slice-known .given i)) (start .pre .0 .0) (start .pre .0 .2) (gathered .gather .ensures .0) (gathered .gather .ensures .1) _ _ _ _ (sized .before .before .k-in .ensures .0) (sized .before .n-in .ensures .0) (sized .size .ensures) (start .pre .1 .0) (divided .divide .last .1 .1 .1 .0) (divided .divide .kept .1 .1 .1 .0) ∙ gathered .gather .kept .1 .1 .0)
     (λ c.
-    let solved = c .before .before .before in
-    let gathered = solved .before .before .before .before in
+    let divided = c .before .before .before in
+    let gathered = divided .before .before .before .before in
     let sized = gathered .before .before in
     let start = sized .before .before .before .before .before .before in (
-      block-none (start .args .bundle .now) (start .args .b) (none-decoded (start .args .bundle .now) (start .args .b) (gathered .gather .last .1 .1 .0) (λ i h. omega (arith, sized .before .before .before .before .before .shared-slice-known .given i)) (start .pre .0 .0) (start .pre .0 .2) (gathered .gather .ensures .0) (gathered .gather .ensures .1) _ _ _ _ (sized .before .before .k-in .ensures .0) (sized .before .n-in .ensures .0) (sized .size .ensures) (start .pre .1 .0) (solved .solve .last .1 .1 .1 .0) (solved .solve .kept .1 .1 .1 .0) _ (solved .solve .ensures .0) (c .if1 .left)),
-      (laid-after (start .args .bundle .now) (start .args .b) (gathered .gather .last .1 .1 .0) (λ i h. omega (arith, sized .before .before .before .before .before .shared-slice-known .given i)) (start .pre .0 .0) (start .pre .0 .2) (gathered .gather .ensures .0) (gathered .gather .ensures .1) _ _ _ _ (sized .before .before .k-in .ensures .0) (sized .before .n-in .ensures .0) (sized .size .ensures) (start .pre .1 .0) (solved .solve .last .1 .1 .1 .0) (solved .solve .kept .1 .1 .1 .0) (solved .solve .ensures .1), refused-none (Disagree (start .args .b))),
+      block-none (start .args .bundle .now) (start .args .b) (none-decoded (start .args .bundle .now) (start .args .b) (gathered .gather .last .1 .1 .0) (λ i h. omega (arith, sized .before .before .before .before .before .shared-slice-known .given i)) (start .pre .0 .0) (start .pre .0 .2) (gathered .gather .ensures .0) (gathered .gather .ensures .1) _ _ _ _ (sized .before .before .k-in .ensures .0) (sized .before .n-in .ensures .0) (sized .size .ensures) (start .pre .1 .0) (divided .divide .last .1 .1 .1 .0) (divided .divide .kept .1 .1 .1 .0) _ (divided .divide .ensures .0) (c .if1 .left)),
+      (laid-after (start .args .bundle .now) (start .args .b) (gathered .gather .last .1 .1 .0) (λ i h. omega (arith, sized .before .before .before .before .before .shared-slice-known .given i)) (start .pre .0 .0) (start .pre .0 .2) (gathered .gather .ensures .0) (gathered .gather .ensures .1) _ _ _ _ (sized .before .before .k-in .ensures .0) (sized .before .n-in .ensures .0) (sized .size .ensures) (start .pre .1 .0) (divided .divide .last .1 .1 .1 .0) (divided .divide .kept .1 .1 .1 .0) (divided .divide .ensures .1), refused-none (Disagree (start .args .b))),
     )))

@@ -29,26 +29,26 @@ lay-bytes-spec =
     laid-past (inBytes (start .args .message .now)) (start .args .file .now) (start .args .from) (2 * length (start .args .message .now)) (c .if1 .taken))
     (λ c. search needs)
     (λ c κs. let start = c .before .before .before .before .before in (search needs, omega (arith, c .before .if2 .taken, c .before .before .if1 .left), start .pre))
-    (λ c. c .before .before .lay-words .kept .1 .1 .1 .0)
+    (λ c. c .before .before .lay-message .kept .1 .1 .1 .0)
     (λ c.
     let start = c .before .before .before .before .before .before .before .before in
     twice (start .args .message .now) (start .args .file .now) (start .args .from) _
-    (c .before .before .lay-words .ensures ∙ laid-all (inBytes (start .args .message .now)) (start .args .file .now) (start .args .from) (2 * length (start .args .message .now)) (omega (arith, c .before .before .before .before .if2 .taken, c .before .before .before .before .before .if1 .left)) (omega (arith, in-bytes-length (start .args .message .now))) (omega (arith, in-bytes-length (start .args .message .now)))))
+    (c .before .before .lay-message .ensures ∙ laid-all (inBytes (start .args .message .now)) (start .args .file .now) (start .args .from) (2 * length (start .args .message .now)) (omega (arith, c .before .before .before .before .if2 .taken, c .before .before .before .before .before .if1 .left)) (omega (arith, in-bytes-length (start .args .message .now))) (omega (arith, in-bytes-length (start .args .message .now)))))
     (λ c κs. let start = c .before .before .before .before .before in (omega (arith, c .before .if2 .left), omega (arith, c .before .before .if1 .left), start .pre))
     (λ c. let start = c .before .before .before .before .before .before .before .before in omega (arith, c .before .before .before .before .before .if1 .left))
     (λ c. let start = c .before .before .before .before .before .before .before .before in omega (arith, c .before .before .before .before .before .if1 .left))
-    (λ c. c .before .before .before .lay-words2 .kept .1 .1 .1 .0)
+    (λ c. c .before .before .before .lay-message2 .kept .1 .1 .1 .0)
     (λ c.
     let start = c .before .before .before .before .before .before .before .before .before in
     twice (start .args .message .now) (start .args .file .now) (start .args .from) _
-    (c .before .before .before .lay-words2 .ensures ∙ laid-full (inBytes (start .args .message .now)) (start .args .file .now) (start .args .from) (2 * ((length (start .args .file .now) - start .args .from) / 2)) (omega (arith, c .before .before .before .before .before .before .if1 .left)) (omega (arith, in-bytes-length (start .args .message .now), c .before .before .before .before .before .if2 .left)) (omega (arith, c .if3 .taken, c .before .before .before .lay-words2 .kept .1 .1 .1 .0))))
+    (c .before .before .before .lay-message2 .ensures ∙ laid-full (inBytes (start .args .message .now)) (start .args .file .now) (start .args .from) (2 * ((length (start .args .file .now) - start .args .from) / 2)) (omega (arith, c .before .before .before .before .before .before .if1 .left)) (omega (arith, in-bytes-length (start .args .message .now), c .before .before .before .before .before .if2 .left)) (omega (arith, c .if3 .taken, c .before .before .before .lay-message2 .kept .1 .1 .1 .0))))
     (λ c. search needs)
     (λ c κs. let start = c .before .before .before .before .before .before .before .before .before in (omega (arith, c .before .before .before .before .before .if2 .left), start .pre))
     (λ c. search needs)
     (λ c. let start = c .before .before .before .before .before .before .before .before .before .before in omega (arith, c .before .if3 .left))
-    (λ c. length-set (c .before .before .before .before .lay-words2 .last .1 .1 .1 .0) _ _ ∙ c .before .before .before .before .lay-words2 .kept .1 .1 .1 .0)
+    (λ c. length-set (c .before .before .before .before .lay-message2 .last .1 .1 .1 .0) _ _ ∙ c .before .before .before .before .lay-message2 .kept .1 .1 .1 .0)
     (λ c.
     let start = c .before .before .before .before .before .before .before .before .before .before in
     twice (start .args .message .now) (start .args .file .now) (start .args .from) _
-    (window-store (start .args .from) (2 * ((length (start .args .file .now) - start .args .from) / 2)) _ _ (start .args .file .now) (c .before .before .before .before .lay-words2 .last .1 .1 .1 .0) _ refl (omega (arith, c .before .if3 .left, c .before .before .before .before .lay-words2 .kept .1 .1 .1 .0)) (c .before .before .before .before .lay-words2 .ensures) (c .byte-of .ensures .0)
-    ∙ laid-full (inBytes (start .args .message .now)) (start .args .file .now) (start .args .from) (2 * ((length (start .args .file .now) - start .args .from) / 2) + 1) (omega (arith, c .before .if3 .left, c .before .before .before .before .lay-words2 .kept .1 .1 .1 .0)) (omega (arith, in-bytes-length (start .args .message .now), c .before .before .before .before .before .before .if2 .left)) (omega (arith, c .before .before .before .before .before .before .before .if1 .left)))))
+    (window-store (start .args .from) (2 * ((length (start .args .file .now) - start .args .from) / 2)) _ _ (start .args .file .now) (c .before .before .before .before .lay-message2 .last .1 .1 .1 .0) _ refl (omega (arith, c .before .if3 .left, c .before .before .before .before .lay-message2 .kept .1 .1 .1 .0)) (c .before .before .before .before .lay-message2 .ensures) (c .byte-of .ensures .0)
+    ∙ laid-full (inBytes (start .args .message .now)) (start .args .file .now) (start .args .from) (2 * ((length (start .args .file .now) - start .args .from) / 2) + 1) (omega (arith, c .before .if3 .left, c .before .before .before .before .lay-message2 .kept .1 .1 .1 .0)) (omega (arith, in-bytes-length (start .args .message .now), c .before .before .before .before .before .before .if2 .left)) (omega (arith, c .before .before .before .before .before .before .before .if1 .left)))))

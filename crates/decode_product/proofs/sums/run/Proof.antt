@@ -10,8 +10,8 @@ use lib.ListN.{length, getD}
 use Rattle.poly.specs.Sum.{total}
 use Rattle.field.proofs.Ring.{symbols-product}
 use Rattle.decode_product.specs.Factors.{run}
-use Rattle.decode_product.specs.Halves.{TwoFactors, left, right}
-use Rattle.decode_product.proofs.Quarters.{Quarters, quarters, left-at, right-at, left-small, right-small}
+use Rattle.decode_product.specs.Halves.{TwoFactors, firstFactor, secondFactor}
+use Rattle.decode_product.proofs.Quarters.{Quarters, quarters, first-factor-at, second-factor-at, first-factor-small, second-factor-small}
 use Rattle.decode_product.proofs.Runs.{run-none, run-more}
 use Rattle.decode_product.proofs.sums.run.Statement.{statement}
 use Rattle.decode_product.proofs.sums.run.Tie as tie
@@ -21,7 +21,7 @@ record Turn (d : List ℕ) (from to sum i j : ℕ) : Type 0 where
   begun : from ≤ i
   some : i ≤ to
   met : i + j ≡ from + (length d / 2 + to)
-  is : sum ≡ total (i - from) (λ t. getD (left d) (from + t) 0 * getD (right d) (to - suc t) 0)
+  is : sum ≡ total (i - from) (λ t. getD (firstFactor d) (from + t) 0 * getD (secondFactor d) (to - suc t) 0)
   small : sum ≤ (i - from) * 4294967296
 
 abbrev Inv-loop : tie.InvT-loop
@@ -44,10 +44,10 @@ module _ (d : List ℕ) (from to : ℕ) (pre : TwoFactors d × (from ≤ to) × 
     inside = let q : Quarters d = quarters d (pre .0) in omega (arith, other, t .begun, q .quarter, q .half, q .whole)
 
     one-small : getD d i 0 ≤ 65536
-    one-small = omega (arith, left-small d (pre .0) i (omega arith))
+    one-small = omega (arith, first-factor-small d (pre .0) i (omega arith))
 
     other-small : getD d (j - 1) 0 ≤ 65536
-    other-small = rw other (omega (arith, right-small d (pre .0) (to + from - suc i) (omega (arith, t .begun))))
+    other-small = rw other (omega (arith, second-factor-small d (pre .0) (to + from - suc i) (omega (arith, t .begun))))
 
     product-small : getD d i 0 * getD d (j - 1) 0 ≤ 4294967296
     product-small = symbols-product _ _ (suc-le-suc one-small) (suc-le-suc other-small)
@@ -59,15 +59,15 @@ module _ (d : List ℕ) (from to : ℕ) (pre : TwoFactors d × (from ≤ to) × 
           some = omega arith;
           met = omega (arith, other, t .begun);
           is =
-              run-more (left d) (right d) from to i sum _ _ (t .begun) (t .is) (left-at d (pre .0) i (omega arith))
-              (ap (λ (n : ℕ). getD d n 0) other ∙ right-at d (pre .0) (to + from - suc i) (omega (arith, t .begun)));
+              run-more (firstFactor d) (secondFactor d) from to i sum _ _ (t .begun) (t .is) (first-factor-at d (pre .0) i (omega arith))
+              (ap (λ (n : ℕ). getD d n 0) other ∙ second-factor-at d (pre .0) (to + from - suc i) (omega (arith, t .begun)));
           small = omega (arith, t .begun, t .small, product-small);
         }
 
-  ended : (sum i j : ℕ) → Turn d from to sum i j → to ≤ i → (sum ≡ run (left d) (right d) from to) × (sum ≤ 70368744177664)
+  ended : (sum i j : ℕ) → Turn d from to sum i j → to ≤ i → (sum ≡ run (firstFactor d) (secondFactor d) from to) × (sum ≤ 70368744177664)
   unfolding run
   ended sum i j t h = (
-    t .is ∙ ap (λ (n : ℕ). total (n - from) (λ s. getD (left d) (from + s) 0 * getD (right d) (to - suc s) 0)) {x = i} {y = to} (omega (arith, t .some)),
+    t .is ∙ ap (λ (n : ℕ). total (n - from) (λ s. getD (firstFactor d) (from + s) 0 * getD (secondFactor d) (to - suc s) 0)) {x = i} {y = to} (omega (arith, t .some)),
     omega (arith, t .small, bounded i (t .some)),
   )
 
@@ -78,7 +78,7 @@ run-spec =
     Inv-loop
     μ-loop
     (λ c. search needs)
-    (λ c. record { begun = search needs; some = search needs; met = search needs; is = run-none (left (c .args .cells .now)) (right (c .args .cells .now)) _ (c .args .to); small = search needs })
+    (λ c. record { begun = search needs; some = search needs; met = search needs; is = run-none (firstFactor (c .args .cells .now)) (secondFactor (c .args .cells .now)) _ (c .args .to); small = search needs })
     (λ c. omega (arith, c .before .loop .inv .met))
     (λ c. search needs)
     (λ c. search needs)

@@ -4,7 +4,7 @@
 use borrow.Author.Needs.{needs}
 use lib.Dec.{lit<}
 use Rattle.decode_product.proofs.Lending.{first-good, second-good}
-use Rattle.decode_product.proofs.Unwrapping.{both-even, values-ready, first-small, product-there, product-length}
+use Rattle.decode_product.proofs.Unwrapping.{both-even, values-transformable, first-small, product-there, product-length}
 use Rattle.decode_product.proofs.transforms.multiply.Statement.{statement}
 use Rattle.decode_product.proofs.transforms.multiply.Tie as tie
 
@@ -37,7 +37,7 @@ multiply-spec =
     let other = values .before .before .before .before in
     let one = other .before .before .before .before in
     let start = one .before .before .before in
-    values-ready (start .args .cells .now) (start .pre) (one .transform-whole .last .0) (one .transform-whole .kept .0) (one .transform-whole .ensures) (other .transform-whole2 .last .0) (other .transform-whole2 .kept .0) (other .transform-whole2 .ensures) (values .multiply-values .last .0) (values .multiply-values .kept .0) (values .multiply-values .ensures))
+    values-transformable (start .args .cells .now) (start .pre) (one .transform-whole .last .0) (one .transform-whole .kept .0) (one .transform-whole .ensures) (other .transform-whole2 .last .0) (other .transform-whole2 .kept .0) (other .transform-whole2 .ensures) (values .multiply-values .last .0) (values .multiply-values .kept .0) (values .multiply-values .ensures))
     (λ c. search needs)
     (λ c κs.
     let back = c .before .before .before in

@@ -3,9 +3,9 @@
 use mathlib.Core.Path.{subst, sym, ap, _∙_}
 use borrow.Author.Needs.{needs}
 use lib.ListN.{length}
-use Rattle.transform_halving.specs.Ready.{Ready}
+use Rattle.transform_halving.specs.Transformable.{Transformable}
 use Rattle.transform_halving.specs.Transform.{transformOf}
-use Rattle.decode_product.proofs.Padding.{whole-length, padded-ready, padded-in-place}
+use Rattle.decode_product.proofs.Padding.{whole-length, padded-transformable, padded-in-place}
 use Rattle.decode_product.proofs.transforms.transform_whole.Statement.{statement}
 use Rattle.decode_product.proofs.transforms.transform_whole.Tie as tie
 
@@ -23,7 +23,7 @@ transform-whole-spec =
     (λ c κs.
     let cleared = c .before .before .before in
     let start = cleared .before .before .before in
-    subst Ready (sym (padded-in-place (start .args .cells .now) (start .pre) (cleared .clear .last .0) (cleared .clear .ensures))) (padded-ready (start .args .cells .now) (start .pre)))
+    subst Transformable (sym (padded-in-place (start .args .cells .now) (start .pre) (cleared .clear .last .0) (cleared .clear .ensures))) (padded-transformable (start .args .cells .now) (start .pre)))
     (λ c.
     let done = c .before .before in
     let cleared = done .before .before .before .before in

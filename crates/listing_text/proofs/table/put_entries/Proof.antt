@@ -51,8 +51,8 @@ put-entries-spec =
     let l = position .before .before in
     let start = l .before .before .before in (
       search needs,
-      put .put-entry .kept .1 .1 .1 .0 ∙ l .loop .inv .1,
-      entries-more (start .args .bundle .now) (l .loop .t) _ _ _ (omega (arith, start .pre .2)) (position .position-in .ensures .0) (offset .offset-in .ensures .0) (count .count-in .ensures .0) (l .loop .inv .2) (put .put-entry .ensures),
+      put .put-entry-line .kept .1 .1 .1 .0 ∙ l .loop .inv .1,
+      entries-more (start .args .bundle .now) (l .loop .t) _ _ _ (omega (arith, start .pre .2)) (position .position-in .ensures .0) (offset .offset-in .ensures .0) (count .count-in .ensures .0) (l .loop .inv .2) (put .put-entry-line .ensures),
     ))
     (λ c. search needs)
     (λ c.

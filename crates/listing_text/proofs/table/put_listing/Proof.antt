@@ -21,7 +21,7 @@ put-listing-spec =
     let header = c .before .before .before in
     let held = header .before .before .before .before .before .before in
     let start = held .before .before .before in
-    (start .pre .0, held .held-in .ensures .0, omega (arith, held .held-in .ensures .0, header .put-header .ensures .ends, header .put-header .ensures .short, header .put-header .kept .1 .1 .1 .1 .1 .0)))
+    (start .pre .0, held .held-in .ensures .0, omega (arith, held .held-in .ensures .0, header .put-header-line .ensures .ends, header .put-header-line .ensures .short, header .put-header-line .kept .1 .1 .1 .1 .1 .0)))
     (λ c. search needs)
     (λ c.
     let entries = c .before .before in
@@ -32,4 +32,4 @@ put-listing-spec =
     let k = n .before in
     let held = k .before in
     let start = held .before .before .before in
-    listing-puts (start .args .bundle .now) _ _ _ _ _ (k .k-in .ensures .0) (n .n-in .ensures .0) (bytes .length-in .ensures .0) (held .held-in .ensures .0) (blocks .blocks-in .ensures .0) (header .put-header .ensures) (entries .put-entries .ensures)))
+    listing-puts (start .args .bundle .now) _ _ _ _ _ (k .k-in .ensures .0) (n .n-in .ensures .0) (bytes .length-in .ensures .0) (held .held-in .ensures .0) (blocks .blocks-in .ensures .0) (header .put-header-line .ensures) (entries .put-entries .ensures)))

@@ -8,10 +8,10 @@ use native.Mathlib.Omega.{arith}
 use borrow.Author.Needs.{needs}
 use lib.ListN.{length, replicate}
 use lib.Seq.{length-front}
-use Rattle.answers.specs.Leaves.{left}
+use Rattle.answers.specs.Leaves.{leaving}
 use Rattle.answers.specs.Refusals.{result}
 use Rattle.answers.proofs.Leaves.{told-done, told-refused, leaves-done, leaves-refused, lent-length, zeroed-part}
-use Rattle.transform.proofs.Judged.{judged-good}
+use Rattle.transform.proofs.Passing.{checks-good}
 use Rattle.transform.proofs.calls.call.Statement.{statement}
 use Rattle.transform.proofs.calls.call.Tie as tie
 
@@ -23,12 +23,12 @@ call-spec =
     (λ c. search needs)
     (λ c κs.
     let told = c .before in
-    judged-good _ _ (told-done _ _ (told .before .before .judge .ensures) (told .enum-told .given .1)) .ready)
+    checks-good _ _ (told-done _ _ (told .before .before .transform-checks .ensures) (told .enum-told .given .1)) .able)
     (λ c. search needs)
     (λ c. search needs)
     (λ c.
     let told = c .before .before .before .before in
-    omega (arith, judged-good _ _ (told-done _ _ (told .before .before .judge .ensures) (told .enum-told .given .1)) .enough))
+    omega (arith, checks-good _ _ (told-done _ _ (told .before .before .transform-checks .ensures) (told .enum-told .given .1)) .enough))
     (λ c κs. search needs)
     (λ c. search needs)
     (λ c. search needs)
@@ -42,9 +42,9 @@ call-spec =
     let told = worked .before .before in
     let judged = told .before .before in
     let start = judged .before .before .before .before in
-    let good = told-done _ _ (judged .judge .ensures) (told .enum-told .given .1) in
-    let enough = judged-good _ _ good .enough in
-    ap₂ (left (result [])) (worked .one-of .ensures)
+    let good = told-done _ _ (judged .transform-checks .ensures) (told .enum-told .given .1) in
+    let enough = checks-good _ _ good .enough in
+    ap₂ (leaving (result [])) (worked .one-of .ensures)
     (zeroed-part (length (start .args .list .now)) (length (start .args .list .now)) (start .args .work .now) refl enough _
     (cleared .clear .ensures ∙ ap (λ (m : ℕ). replicate m 0) (lent-length (length (start .args .list .now)) (length (start .args .list .now)) (start .args .work .now) refl enough)))
     ∙ leaves-done _ _ _ _ good)
@@ -53,4 +53,4 @@ call-spec =
     let known = c .before in
     let judged = known .before .before in
     leaves-refused _ (known .refusal .given .0 .0) _ _ _
-    (told-refused _ _ _ (judged .judge .ensures) (known .refusal .given .1))))
+    (told-refused _ _ _ (judged .transform-checks .ensures) (known .refusal .given .1))))

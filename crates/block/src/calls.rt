@@ -13,7 +13,8 @@ ghost use Rattle.block.specs.Calls.{encodeLeaves, decodeLeaves};
 
 // The code word e_i = s(r^i) of the message, for i = 0 .. n - 1, at the output's front.
 pub fn encode(k: usize, n: usize, message: &[u32], out: &mut [u32], work: &mut [u32]) -> Outcome
-    ensures { λ r. ⌜ leaving (toldOutcome r) (now (out .exit)) (now (work .exit)) ≡ encodeLeaves k n (now (message .entry)) (now (out .entry)) (now (work .entry)) ⌝ }
+    ensures { λ r. ⌜ leaving (toldOutcome r) (now (out .exit)) (now (work .exit))
+        ≡ encodeLeaves k n (now (message .entry)) (now (out .entry)) (now (work .entry)) ⌝ }
 {
     match checks::encode_checks(k, n, message, out.len(), work.len()) {
         Outcome::Done => {
@@ -34,7 +35,8 @@ pub fn decode(
     out: &mut [u32],
     work: &mut [u32],
 ) -> Outcome
-    ensures { λ r. ⌜ leaving (toldOutcome r) (now (out .exit)) (now (work .exit)) ≡ decodeLeaves k n (now (positions .entry)) (now (values .entry)) (now (out .entry)) (now (work .entry)) ⌝ }
+    ensures { λ r. ⌜ leaving (toldOutcome r) (now (out .exit)) (now (work .exit))
+        ≡ decodeLeaves k n (now (positions .entry)) (now (values .entry)) (now (out .entry)) (now (work .entry)) ⌝ }
 {
     match checks::decode_checks(k, n, positions, values, out.len(), work.len()) {
         Outcome::Done => {

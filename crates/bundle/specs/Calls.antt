@@ -22,6 +22,9 @@ blocksLeave (refusal number place) s out work =
     leaving (refusal number place) (written (replicate (lengthIn s) 0) out) (zeroed (workRoom (nIn s)) work)
 blocksLeave (result vs) s out work = leaving (result vs) (written (fileIn s) out) (zeroed (workRoom (nIn s)) work)
 
+-- what reading all blocks leaves
+abbrev pub readAllLeaves : List ℕ → List ℕ → List ℕ → Leaves
+readAllLeaves s out work = blocksLeave (blocksAnswer s 0 (blocksIn s)) s out work
+
 abbrev pub readLeaves : List ℕ → List ℕ → List ℕ → Leaves
-readLeaves s out work =
-    unlessRefused (readChecks s (length out) (length work)) out work (blocksLeave (blocksAnswer s 0 (blocksIn s)) s out work)
+readLeaves s out work = unlessRefused (readChecks s (length out) (length work)) out work (readAllLeaves s out work)

@@ -16,7 +16,8 @@ ghost use Rattle.bundle.specs.Calls.{writeLeaves, readLeaves};
 
 // The bundle of all n shadows of the file, at the output's front; its length is the answer.
 pub fn write(k: usize, n: usize, file: &[u8], out: &mut [u8], work: &mut [u32]) -> LengthAnswer
-    ensures { λ r. ⌜ leaving (toldLength r) (now (out .exit)) (now (work .exit)) ≡ writeLeaves k n (now (file .entry)) (now (out .entry)) (now (work .entry)) ⌝ }
+    ensures { λ r. ⌜ leaving (toldLength r) (now (out .exit)) (now (work .exit))
+        ≡ writeLeaves k n (now (file .entry)) (now (out .entry)) (now (work .entry)) ⌝ }
 {
     match write_checks(k, n, file.len(), out.len(), work.len()) {
         Outcome::Done => {
@@ -29,7 +30,8 @@ pub fn write(k: usize, n: usize, file: &[u8], out: &mut [u8], work: &mut [u32]) 
 
 // The file of the bundle, at the output's front; its length L is the answer.
 pub fn read(bundle: &[u8], out: &mut [u8], work: &mut [u32]) -> LengthAnswer
-    ensures { λ r. ⌜ leaving (toldLength r) (now (out .exit)) (now (work .exit)) ≡ readLeaves (now (bundle .entry)) (now (out .entry)) (now (work .entry)) ⌝ }
+    ensures { λ r. ⌜ leaving (toldLength r) (now (out .exit)) (now (work .exit))
+        ≡ readLeaves (now (bundle .entry)) (now (out .entry)) (now (work .entry)) ⌝ }
 {
     match read_checks(bundle, out.len(), work.len()) {
         Outcome::Done => {

@@ -24,8 +24,11 @@ fn tally_one(count: u32, symbol: u32) -> u32
 
 // One more for each shadow whose symbol is 65536.
 pub fn tally(n: usize, size: usize, cells: &mut [u32])
-    requires { ⌜ (n ≤ size) × (length (now cells) ≡ 2 * size) × ((i : ℕ) → i < n → getD (now cells) (size + i) 0 < 65536) ⌝ }
-    ensures { λ _. ⌜ ((i : ℕ) → i < n → getD (now (cells .exit)) (size + i) 0 ≡ tallied (getD (now (cells .entry)) (size + i) 0) (getD (now (cells .entry)) i 0)) ⌝ }
+    requires { ⌜ (n ≤ size) × (length (now cells) ≡ 2 * size)
+        × ((i : ℕ) → i < n → getD (now cells) (size + i) 0 < 65536) ⌝ }
+    ensures { λ _. ⌜ ((i : ℕ) → i < n
+        → getD (now (cells .exit)) (size + i) 0
+        ≡ tallied (getD (now (cells .entry)) (size + i) 0) (getD (now (cells .entry)) i 0)) ⌝ }
 {
     let mut i = 0;
     while i < n {
@@ -59,7 +62,8 @@ pub fn clear_counts(n: usize, cells: &mut [u32])
 
 // The code word of block b in front; the counts stay.
 pub fn code_front(k: usize, n: usize, file: &[u8], b: usize, cells: &mut [u32])
-    requires { ⌜ (badBundleShape k n (length (now file)) ≡ false) × (b < blocksOf k (length (now file))) × Counted k n (now file) b (now cells) ⌝ }
+    requires { ⌜ (badBundleShape k n (length (now file)) ≡ false) × (b < blocksOf k (length (now file)))
+        × Counted k n (now file) b (now cells) ⌝ }
     ensures { λ _. ⌜ Coded k n (now (file .entry)) b (now (cells .exit)) ⌝ }
     ensures { λ _. ⌜ Counted k n (now (file .entry)) b (now (cells .exit)) ⌝ }
 {

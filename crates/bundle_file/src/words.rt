@@ -38,7 +38,8 @@ fn word_at(file: &[u8], at: usize) -> u32
 
 fn lay_words(file: &[u8], from: usize, words: &mut [u32])
     requires { ⌜ from + 2 * length (now words) < 4294967296 ⌝ }
-    ensures { λ _. ⌜ now (words .exit) ≡ tab (length (now (words .entry))) (λ i. twoAt (now (file .entry)) (from + 2 * i)) ⌝ }
+    ensures { λ _. ⌜ now (words .exit)
+        ≡ tab (length (now (words .entry))) (λ i. twoAt (now (file .entry)) (from + 2 * i)) ⌝ }
 {
     let mut i = 0;
     while i < words.len() {
@@ -50,7 +51,8 @@ fn lay_words(file: &[u8], from: usize, words: &mut [u32])
 // The message of block b as the first of the cells, the others 0.
 fn lay_block(k: usize, file: &[u8], b: usize, cells: &mut [u32])
     requires { ⌜ (k ≤ longest) × (b < mostBlocks) × (k ≤ length (now cells)) ⌝ }
-    ensures { λ _. ⌜ now (cells .exit) ≡ messageAt k (now (file .entry)) b ++ replicate (length (now (cells .entry)) - k) 0 ⌝ }
+    ensures { λ _. ⌜ now (cells .exit)
+        ≡ messageAt k (now (file .entry)) b ++ replicate (length (now (cells .entry)) - k) 0 ⌝ }
 {
     lay_words(file, 2 * (k * b), &mut cells[0..k]);
     clear(&mut cells[k..]);
@@ -58,7 +60,8 @@ fn lay_block(k: usize, file: &[u8], b: usize, cells: &mut [u32])
 
 // The code word of block b at the front of N cells.
 pub fn code_block(k: usize, n: usize, file: &[u8], b: usize, cells: &mut [u32])
-    requires { ⌜ (badBundleShape k n (length (now file)) ≡ false) × (b < blocksOf k (length (now file))) × (length (now cells) ≡ sizeOf n) ⌝ }
+    requires { ⌜ (badBundleShape k n (length (now file)) ≡ false) × (b < blocksOf k (length (now file)))
+        × (length (now cells) ≡ sizeOf n) ⌝ }
     ensures { λ _. ⌜ take n (now (cells .exit)) ≡ codeWord n (messageAt k (now (file .entry)) b) ⌝ }
 {
     lay_block(k, file, b, cells);

@@ -31,7 +31,8 @@ pub fn put_at(
     b: usize,
     symbol: u32,
 )
-    requires { ⌜ (at + bodySize blocks count ≤ length (now out)) × (blocks < 65536) × (count < 65536) × (b < blocks) × (done ≤ count) × (symbol < 65537) ⌝ }
+    requires { ⌜ (at + bodySize blocks count ≤ length (now out)) × (blocks < 65536) × (count < 65536) × (b < blocks)
+        × (done ≤ count) × (symbol < 65537) ⌝ }
     ensures { λ _. ⌜ now (out .exit) ≡ stored at count done b symbol (now (out .entry)) ⌝ }
 {
     let end = at + body_size(blocks, count);
@@ -40,7 +41,8 @@ pub fn put_at(
 
 // The symbols of block b into bodies that list nothing.
 fn store_plain(k: usize, n: usize, file: &[u8], b: usize, out: &mut [u8], cells: &[u32])
-    requires { ⌜ (badBundleShape k n (length (now file)) ≡ false) × (b < blocksOf k (length (now file))) × Plain k n (now file) b (now out) × (n ≤ length (now cells)) ⌝ }
+    requires { ⌜ (badBundleShape k n (length (now file)) ≡ false) × (b < blocksOf k (length (now file)))
+        × Plain k n (now file) b (now out) × (n ≤ length (now cells)) ⌝ }
     requires { ⌜ Coded k n (now file) b (now cells) ⌝ }
     ensures { λ _. ⌜ Plainly k n (now (file .entry)) (now (out .entry)) (now (out .exit)) ⌝ }
     ensures { λ _. ⌜ Plain k n (now (file .entry)) (suc b) (now (out .exit)) ⌝ }
@@ -58,7 +60,8 @@ fn store_plain(k: usize, n: usize, file: &[u8], b: usize, out: &mut [u8], cells:
 
 // The same, unless a symbol before them overflowed: then the bodies have to be written anew, and storing is only time.
 fn store_if_none(k: usize, n: usize, file: &[u8], b: usize, out: &mut [u8], cells: &[u32])
-    requires { ⌜ (badBundleShape k n (length (now file)) ≡ false) × (b < blocksOf k (length (now file))) × Plain k n (now file) b (now out) × Counted k n (now file) b (now cells) ⌝ }
+    requires { ⌜ (badBundleShape k n (length (now file)) ≡ false) × (b < blocksOf k (length (now file)))
+        × Plain k n (now file) b (now out) × Counted k n (now file) b (now cells) ⌝ }
     requires { ⌜ Coded k n (now file) b (now cells) ⌝ }
     ensures { λ _. ⌜ Plainly k n (now (file .entry)) (now (out .entry)) (now (out .exit)) ⌝ }
     ensures { λ _. ⌜ Plain k n (now (file .entry)) (suc b) (now (out .exit)) ⌝ }
@@ -70,7 +73,8 @@ fn store_if_none(k: usize, n: usize, file: &[u8], b: usize, out: &mut [u8], cell
 }
 
 fn pass_block(k: usize, n: usize, file: &[u8], b: usize, out: &mut [u8], cells: &mut [u32])
-    requires { ⌜ (badBundleShape k n (length (now file)) ≡ false) × (b < blocksOf k (length (now file))) × Plain k n (now file) b (now out) × Counted k n (now file) b (now cells) ⌝ }
+    requires { ⌜ (badBundleShape k n (length (now file)) ≡ false) × (b < blocksOf k (length (now file)))
+        × Plain k n (now file) b (now out) × Counted k n (now file) b (now cells) ⌝ }
     ensures { λ _. ⌜ Plainly k n (now (file .entry)) (now (out .entry)) (now (out .exit)) ⌝ }
     ensures { λ _. ⌜ Plain k n (now (file .entry)) (suc b) (now (out .exit)) ⌝ }
     ensures { λ _. ⌜ Counted k n (now (file .entry)) (suc b) (now (cells .exit)) ⌝ }
@@ -83,7 +87,8 @@ fn pass_block(k: usize, n: usize, file: &[u8], b: usize, out: &mut [u8], cells: 
 
 // The counts of all blocks, and their symbols where they belong if all counts are 0.
 pub fn write_plain(k: usize, n: usize, file: &[u8], out: &mut [u8], cells: &mut [u32])
-    requires { ⌜ (badBundleShape k n (length (now file)) ≡ false) × (length (fileBundle k n (now file)) ≤ length (now out)) × (length (now cells) ≡ 2 * sizeOf n) ⌝ }
+    requires { ⌜ (badBundleShape k n (length (now file)) ≡ false)
+        × (length (fileBundle k n (now file)) ≤ length (now out)) × (length (now cells) ≡ 2 * sizeOf n) ⌝ }
     ensures { λ _. ⌜ Plainly k n (now (file .entry)) (now (out .entry)) (now (out .exit)) ⌝ }
     ensures { λ _. ⌜ Plain k n (now (file .entry)) (blocksOf k (length (now (file .entry)))) (now (out .exit)) ⌝ }
     ensures { λ _. ⌜ Counted k n (now (file .entry)) (blocksOf k (length (now (file .entry)))) (now (cells .exit)) ⌝ }

@@ -44,7 +44,9 @@ fn put_entry(out: &mut [u8], i: usize, count: usize, offset: usize)
 
 // The table, from the counts; where the last body ends is the bundle's length.
 fn write_table(k: usize, n: usize, file: &[u8], out: &mut [u8], cells: &[u32]) -> usize
-    requires { ⌜ (badBundleShape k n (length (now file)) ≡ false) × (length (fileBundle k n (now file)) ≤ length (now out)) × Counted k n (now file) (blocksOf k (length (now file))) (now cells) ⌝ }
+    requires { ⌜ (badBundleShape k n (length (now file)) ≡ false)
+        × (length (fileBundle k n (now file)) ≤ length (now out))
+        × Counted k n (now file) (blocksOf k (length (now file))) (now cells) ⌝ }
     ensures { λ r. ⌜ r ≡ length (fileBundle k n (now (file .entry))) ⌝ }
     ensures { λ _. ⌜ Onward (fileBundle k n (now (file .entry))) (now (out .entry)) (now (out .exit)) ⌝ }
     ensures { λ _. ⌜ Stand headerSize (firstBody n) (fileBundle k n (now (file .entry))) (now (out .exit)) ⌝ }
@@ -63,7 +65,9 @@ fn write_table(k: usize, n: usize, file: &[u8], out: &mut [u8], cells: &[u32]) -
 }
 
 pub fn write_front(k: usize, n: usize, file: &[u8], out: &mut [u8], cells: &[u32]) -> usize
-    requires { ⌜ (badBundleShape k n (length (now file)) ≡ false) × (length (fileBundle k n (now file)) ≤ length (now out)) × Counted k n (now file) (blocksOf k (length (now file))) (now cells) ⌝ }
+    requires { ⌜ (badBundleShape k n (length (now file)) ≡ false)
+        × (length (fileBundle k n (now file)) ≤ length (now out))
+        × Counted k n (now file) (blocksOf k (length (now file))) (now cells) ⌝ }
     ensures { λ r. ⌜ r ≡ length (fileBundle k n (now (file .entry))) ⌝ }
     ensures { λ _. ⌜ Onward (fileBundle k n (now (file .entry))) (now (out .entry)) (now (out .exit)) ⌝ }
     ensures { λ _. ⌜ Stand 0 (firstBody n) (fileBundle k n (now (file .entry))) (now (out .exit)) ⌝ }

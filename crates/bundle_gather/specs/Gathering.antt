@@ -1,11 +1,12 @@
 -- The reader's working space, eight parts of N cells. What depends on the positions alone is worked out once for a bundle and stays for all its
 -- blocks; and each held shadow has a cursor, so that no overflow list is searched twice.
 use mathlib.Core.Path.{_≡_}
-use mathlib.Core.List.{List}
+use mathlib.Core.List.{List, _++_}
 use Prim.Native.Nat.{ℕ, zero, suc, _+_, _*_, _<_}
-use lib.ListN.{length, getD, drop, replicate, set}
+use lib.ListN.{length, getD, take, drop, replicate, set}
 use Rattle.field.specs.Field.{product, power}
 use Rattle.field.specs.Size.{sizeOf}
+use Rattle.poly.specs.Tab.{tab}
 use Rattle.decode_between.specs.Between.{psi}
 use Rattle.decode_divide.specs.Quotients.{InversesBetween}
 use Rattle.decode_missing.specs.Missing.{missingPoints}
@@ -41,6 +42,18 @@ pub record Shadows (s : List ℕ) (m : ℕ) (cells : List ℕ) : Type 0 where
   pub words : (t : ℕ) → t < m → getD cells (5 * sizeOf (nIn s) + t) 0 ≡ wordsHeld s t
   pub cursors : (t : ℕ) → t < m → getD cells (6 * sizeOf (nIn s) + t) 0 ≡ cursorHeld s 0 t
   pub positions : (t : ℕ) → t < m → getD cells (7 * sizeOf (nIn s) + t) 0 ≡ positionIn s t
+
+-- the cells with shadow t laid, N being the size
+abbrev pub withShadow : List ℕ → ℕ → ℕ → List ℕ → List ℕ
+withShadow s N t cells = set (set (set cells (5 * N + t) (wordsHeld s t)) (6 * N + t) (cursorHeld s 0 t)) (7 * N + t) (positionIn s t)
+
+-- with the first N numbers standing from 4N on too: the weights
+abbrev pub withWeights : ℕ → List ℕ → List ℕ
+withWeights N cells = take (4 * N) cells ++ (tab N (λ j. getD cells j 0) ++ drop (4 * N + N) cells)
+
+-- with what shadow t holds for block b at its position, and its cursor at the next block
+abbrev pub withSymbol : List ℕ → ℕ → ℕ → ℕ → List ℕ → List ℕ
+withSymbol s N b t cells = set (set cells (positionIn s t) (weightedHeld s b t)) (6 * N + t) (cursorHeld s (suc b) t)
 
 -- what stays
 pub record Fixed (s cells : List ℕ) : Type 0 where

@@ -12,21 +12,21 @@ use cells::clear;
 use decode_prepare::prepare;
 use field::size;
 ghost use mathlib.Core.Path.{_≡_};
-ghost use mathlib.Core.List.{[], _++_};
-ghost use Prim.Native.Nat.{_+_, _*_, _<_, _≤_};
-ghost use lib.ListN.{length, getD, take, drop, set};
+ghost use mathlib.Core.List.{[]};
+ghost use Prim.Native.Nat.{_*_, _<_, _≤_};
+ghost use lib.ListN.{length};
 ghost use Rattle.answers.specs.Refusals.{result};
 ghost use Rattle.field.specs.Size.{sizeOf};
-ghost use Rattle.poly.specs.Tab.{tab};
-ghost use Rattle.bundle_layout.specs.Fields.{kIn, nIn, heldIn, positionIn};
+ghost use Rattle.bundle_layout.specs.Fields.{kIn, nIn, heldIn};
 ghost use Rattle.bundle_layout.specs.Layout.{layoutChecks};
 ghost use Rattle.bundle_layout.specs.Rooms.{workRoom};
-ghost use Rattle.bundle_gather.specs.Gathering.{marksIn, missingIn, wordsHeld, cursorHeld, Shadows, Laid};
+ghost use Rattle.bundle_gather.specs.Gathering.{marksIn, missingIn, withShadow, withWeights, Shadows, Laid};
 
 // Shadow t; size is N.
 fn lay_shadow(bundle: &[u8], size: usize, t: usize, cells: &mut [u32])
-    requires { ⌜ (layoutChecks (now bundle) ≡ result []) × (t < heldIn (now bundle)) × (size ≡ sizeOf (nIn (now bundle))) × (length (now cells) ≡ 8 * size) ⌝ }
-    ensures { λ _. ⌜ now (cells .exit) ≡ set (set (set (now (cells .entry)) (5 * size + t) (wordsHeld (now (bundle .entry)) t)) (6 * size + t) (cursorHeld (now (bundle .entry)) 0 t)) (7 * size + t) (positionIn (now (bundle .entry)) t) ⌝ }
+    requires { ⌜ (layoutChecks (now bundle) ≡ result []) × (t < heldIn (now bundle))
+        × (size ≡ sizeOf (nIn (now bundle))) × (length (now cells) ≡ 8 * size) ⌝ }
+    ensures { λ _. ⌜ now (cells .exit) ≡ withShadow (now (bundle .entry)) size t (now (cells .entry)) ⌝ }
 {
     let at = offset_in(bundle, t);
     cells[5 * size + t] = words_at(at, count_in(bundle, t)) as u32;
@@ -35,7 +35,8 @@ fn lay_shadow(bundle: &[u8], size: usize, t: usize, cells: &mut [u32])
 }
 
 fn lay_shadows(bundle: &[u8], size: usize, cells: &mut [u32])
-    requires { ⌜ (layoutChecks (now bundle) ≡ result []) × (size ≡ sizeOf (nIn (now bundle))) × (length (now cells) ≡ 8 * size) ⌝ }
+    requires { ⌜ (layoutChecks (now bundle) ≡ result []) × (size ≡ sizeOf (nIn (now bundle)))
+        × (length (now cells) ≡ 8 * size) ⌝ }
     ensures { λ _. ⌜ Shadows (now (bundle .entry)) (heldIn (now (bundle .entry))) (now (cells .exit)) ⌝ }
 {
     let held = held_in(bundle);
@@ -62,7 +63,7 @@ fn mark_held(bundle: &[u8], marks: &mut [u32])
 // The weights, which the preparation leaves in front, to where no block changes them.
 fn keep_weights(size: usize, cells: &mut [u32])
     requires { ⌜ length (now cells) ≡ 8 * size ⌝ }
-    ensures { λ _. ⌜ now (cells .exit) ≡ take (4 * size) (now (cells .entry)) ++ (tab size (λ j. getD (now (cells .entry)) j 0) ++ drop (4 * size + size) (now (cells .entry))) ⌝ }
+    ensures { λ _. ⌜ now (cells .exit) ≡ withWeights size (now (cells .entry)) ⌝ }
 {
     let from = 4 * size;
     let mut j = 0;
@@ -74,7 +75,8 @@ fn keep_weights(size: usize, cells: &mut [u32])
 
 // Every cursor at the front of its list; what is returned is how many positions are missing.
 pub fn start(bundle: &[u8], cells: &mut [u32]) -> usize
-    requires { ⌜ (layoutChecks (now bundle) ≡ result []) × (kIn (now bundle) ≤ heldIn (now bundle)) × (length (now cells) ≡ workRoom (nIn (now bundle))) ⌝ }
+    requires { ⌜ (layoutChecks (now bundle) ≡ result []) × (kIn (now bundle) ≤ heldIn (now bundle))
+        × (length (now cells) ≡ workRoom (nIn (now bundle))) ⌝ }
     ensures { λ r. ⌜ (r ≡ length (missingIn (now (bundle .entry)))) × Laid (now (bundle .entry)) 0 (now (cells .exit)) ⌝ }
 {
     let n = n_in(bundle);

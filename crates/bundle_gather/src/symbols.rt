@@ -11,18 +11,19 @@ use field::size;
 ghost use mathlib.Core.Path.{_≡_};
 ghost use mathlib.Core.List.{[]};
 ghost use Prim.Native.Nat.{suc, _+_, _*_, _<_};
-ghost use lib.ListN.{getD, set};
+ghost use lib.ListN.{getD};
 ghost use Rattle.answers.specs.Refusals.{result};
 ghost use Rattle.field.specs.Size.{sizeOf};
-ghost use Rattle.bundle_layout.specs.Fields.{nIn, heldIn, blocksIn, positionIn};
+ghost use Rattle.bundle_layout.specs.Fields.{nIn, heldIn, blocksIn};
 ghost use Rattle.bundle_layout.specs.Layout.{layoutChecks};
-ghost use Rattle.bundle_gather.specs.Gathering.{cursorHeld, weightedHeld, Fixed, Laid, Gathered};
+ghost use Rattle.bundle_gather.specs.Gathering.{cursorHeld, withSymbol, Fixed, Laid, Gathered};
 
 // What shadow t holds for block b, and its cursor on the next block; size is N.
 fn gather_one(bundle: &[u8], size: usize, b: usize, t: usize, cells: &mut [u32])
-    requires { ⌜ (layoutChecks (now bundle) ≡ result []) × (b < blocksIn (now bundle)) × (t < heldIn (now bundle)) × (size ≡ sizeOf (nIn (now bundle))) ⌝ }
+    requires { ⌜ (layoutChecks (now bundle) ≡ result []) × (b < blocksIn (now bundle)) × (t < heldIn (now bundle))
+        × (size ≡ sizeOf (nIn (now bundle))) ⌝ }
     requires { ⌜ Fixed (now bundle) (now cells) × (getD (now cells) (6 * size + t) 0 ≡ cursorHeld (now bundle) b t) ⌝ }
-    ensures { λ _. ⌜ now (cells .exit) ≡ set (set (now (cells .entry)) (positionIn (now (bundle .entry)) t) (weightedHeld (now (bundle .entry)) b t)) (6 * size + t) (cursorHeld (now (bundle .entry)) (suc b) t) ⌝ }
+    ensures { λ _. ⌜ now (cells .exit) ≡ withSymbol (now (bundle .entry)) size b t (now (cells .entry)) ⌝ }
 {
     let words = wide(cells[5 * size + t]);
     let cursor = wide(cells[6 * size + t]);
@@ -36,7 +37,8 @@ fn gather_one(bundle: &[u8], size: usize, b: usize, t: usize, cells: &mut [u32])
 // The values of block b.
 pub fn gather(bundle: &[u8], b: usize, cells: &mut [u32])
     requires { ⌜ (layoutChecks (now bundle) ≡ result []) × (b < blocksIn (now bundle)) × Laid (now bundle) b (now cells) ⌝ }
-    ensures { λ _. ⌜ Laid (now (bundle .entry)) (suc b) (now (cells .exit)) × Gathered (now (bundle .entry)) b (heldIn (now (bundle .entry))) (now (cells .exit)) ⌝ }
+    ensures { λ _. ⌜ Laid (now (bundle .entry)) (suc b) (now (cells .exit))
+        × Gathered (now (bundle .entry)) b (heldIn (now (bundle .entry))) (now (cells .exit)) ⌝ }
 {
     let size = size(n_in(bundle));
     let held = held_in(bundle);

@@ -15,7 +15,7 @@ use bundle_storage::body_size;
 use bundle_storage::two_at;
 use limits::bad_shape;
 ghost use mathlib.Core.Path.{_≡_};
-ghost use Prim.Native.Nat.{_+_, _*_, _<_, _≤_};
+ghost use Prim.Native.Nat.{_+_, _<_, _≤_};
 ghost use lib.ListN.{length};
 ghost use Rattle.answers.specs.Refusals.{toldOutcome};
 ghost use Rattle.bundle_storage.specs.Blocks.{mostBlocks};
@@ -91,7 +91,8 @@ fn bad_entry(bundle: &[u8], n: usize, blocks: usize, t: usize, low: usize, at: u
 
 // The table, the bodies and the bundle's end.
 fn rest_good(bundle: &[u8], n: usize, held: usize, blocks: usize) -> bool
-    requires { ⌜ (headerSize ≤ length (now bundle)) × (n ≡ nIn (now bundle)) × (held ≡ heldIn (now bundle)) × (held < 65536) ⌝ }
+    requires { ⌜ (headerSize ≤ length (now bundle)) × (n ≡ nIn (now bundle)) × (held ≡ heldIn (now bundle))
+        × (held < 65536) ⌝ }
     requires { ⌜ (blocks ≡ blocksIn (now bundle)) × (blocks ≤ mostBlocks) ⌝ }
     ensures { λ r. ⌜ r ≡ restGood (now (bundle .entry)) ⌝ }
 {

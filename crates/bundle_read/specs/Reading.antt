@@ -1,4 +1,5 @@
 -- What the reader makes of a bundle whose layout is good, block by block.
+use mathlib.Core.Path.{_≡_}
 use mathlib.Core.Bool.{Bool, not}
 use mathlib.Core.List.{List, [], _∷_, _++_}
 use mathlib.Core.Option.{Option, some, none}
@@ -61,6 +62,10 @@ bytesOf (some message) = inBytes message
 unfoldable pub bytesBefore : List ℕ → ℕ → List ℕ
 bytesBefore s zero = []
 bytesBefore s (suc b) = bytesBefore s b ++ bytesOf (decodedAt s b)
+
+-- they stand at the front of what is lent for the file, as far as there is room
+abbrev pub BlocksLaid : List ℕ → ℕ → ℕ → List ℕ → Type 0
+BlocksLaid s b room file = take (2 * (kIn s * b)) file ≡ take room (bytesBefore s b)
 
 -- "returns the L bytes"
 unfoldable pub fileIn : List ℕ → List ℕ

@@ -22,14 +22,18 @@ ghost use Rattle.bundle_storage.specs.Bytes.{inBytes};
 ghost use Rattle.bundle_layout.specs.Fields.{kIn, lengthIn, heldIn, blocksIn};
 ghost use Rattle.bundle_layout.specs.Layout.{layoutChecks};
 ghost use Rattle.bundle_gather.specs.Gathering.{missingIn, Laid};
-ghost use Rattle.bundle_read.specs.Reading.{judged, blockAnswer, blocksAnswer, bytesBefore, fileIn};
+ghost use Rattle.bundle_read.specs.Reading.{judged, blockAnswer, blocksAnswer, BlocksLaid, fileIn};
 
 // The message of block b into the file, or WORD or TAIL.
 fn take_message(bundle: &[u8], b: usize, message: &[u32], file: &mut [u8]) -> Outcome
     requires { ⌜ (layoutChecks (now bundle) ≡ result []) × (b < blocksIn (now bundle)) ⌝ }
     requires { ⌜ (length (now message) ≡ kIn (now bundle)) × Symbols (now message) ⌝ }
-    ensures { λ r. ⌜ toldOutcome r ≡ judged (kIn (now (bundle .entry))) (lengthIn (now (bundle .entry))) b (some (now (message .entry))) ⌝ }
-    ensures { λ r. ⌜ (toldOutcome r ≡ result [] → take (2 * (kIn (now (bundle .entry)) * suc b)) (now (file .exit)) ≡ take (length (now (file .entry))) (take (2 * (kIn (now (bundle .entry)) * b)) (now (file .entry)) ++ inBytes (now (message .entry)))) ⌝ }
+    ensures { λ r. ⌜ toldOutcome r
+        ≡ judged (kIn (now (bundle .entry))) (lengthIn (now (bundle .entry))) b (some (now (message .entry))) ⌝ }
+    ensures { λ r. ⌜ (toldOutcome r ≡ result []
+        → take (2 * (kIn (now (bundle .entry)) * suc b)) (now (file .exit))
+        ≡ take (length (now (file .entry)))
+        (take (2 * (kIn (now (bundle .entry)) * b)) (now (file .entry)) ++ inBytes (now (message .entry)))) ⌝ }
 {
     let from = 2 * (k_in(bundle) * b);
     if bad_word(message) {
@@ -50,11 +54,14 @@ fn read_block(
     file: &mut [u8],
     cells: &mut [u32],
 ) -> Outcome
-    requires { ⌜ (layoutChecks (now bundle) ≡ result []) × (b < blocksIn (now bundle)) × (kIn (now bundle) ≤ heldIn (now bundle)) ⌝ }
+    requires { ⌜ (layoutChecks (now bundle) ≡ result []) × (b < blocksIn (now bundle))
+        × (kIn (now bundle) ≤ heldIn (now bundle)) ⌝ }
     requires { ⌜ (missing ≡ length (missingIn (now bundle))) × Laid (now bundle) b (now cells) ⌝ }
     ensures { λ r. ⌜ toldOutcome r ≡ blockAnswer (now (bundle .entry)) b ⌝ }
     ensures { λ _. ⌜ Laid (now (bundle .entry)) (suc b) (now (cells .exit)) ⌝ }
-    ensures { λ r. ⌜ (toldOutcome r ≡ result [] → take (2 * (kIn (now (bundle .entry)) * b)) (now (file .entry)) ≡ take (length (now (file .entry))) (bytesBefore (now (bundle .entry)) b) → take (2 * (kIn (now (bundle .entry)) * suc b)) (now (file .exit)) ≡ take (length (now (file .entry))) (bytesBefore (now (bundle .entry)) (suc b))) ⌝ }
+    ensures { λ r. ⌜ (toldOutcome r ≡ result []
+        → BlocksLaid (now (bundle .entry)) b (length (now (file .entry))) (now (file .entry))
+        → BlocksLaid (now (bundle .entry)) (suc b) (length (now (file .entry))) (now (file .exit))) ⌝ }
 {
     let k = k_in(bundle);
     let n = n_in(bundle);
@@ -69,10 +76,13 @@ fn read_block(
 // The blocks in order, as far as none is refused. Of the file the first bytes are laid, as many as there is room for: a caller who only wants to
 // know whether it can be read lends none. missing is what start returned.
 pub fn read_blocks(bundle: &[u8], missing: usize, file: &mut [u8], cells: &mut [u32]) -> Outcome
-    requires { ⌜ (layoutChecks (now bundle) ≡ result []) × (kIn (now bundle) ≤ heldIn (now bundle)) × (length (now file) ≤ lengthIn (now bundle)) ⌝ }
+    requires { ⌜ (layoutChecks (now bundle) ≡ result []) × (kIn (now bundle) ≤ heldIn (now bundle))
+        × (length (now file) ≤ lengthIn (now bundle)) ⌝ }
     requires { ⌜ (missing ≡ length (missingIn (now bundle))) × Laid (now bundle) 0 (now cells) ⌝ }
-    ensures { λ r. ⌜ after (toldOutcome r) (result (lengthIn (now (bundle .entry)) ∷ [])) ≡ blocksAnswer (now (bundle .entry)) 0 (blocksIn (now (bundle .entry))) ⌝ }
-    ensures { λ r. ⌜ (toldOutcome r ≡ result [] → now (file .exit) ≡ take (length (now (file .entry))) (fileIn (now (bundle .entry)))) ⌝ }
+    ensures { λ r. ⌜ after (toldOutcome r) (result (lengthIn (now (bundle .entry)) ∷ []))
+        ≡ blocksAnswer (now (bundle .entry)) 0 (blocksIn (now (bundle .entry))) ⌝ }
+    ensures { λ r. ⌜ (toldOutcome r ≡ result []
+        → now (file .exit) ≡ take (length (now (file .entry))) (fileIn (now (bundle .entry)))) ⌝ }
 {
     let blocks = blocks_in(bundle);
     let mut b = 0;

@@ -3,13 +3,12 @@ use bundle_storage::put_two;
 use cells::wide;
 ghost use mathlib.Core.Path.{_≡_};
 ghost use mathlib.Core.Bool.{not};
-ghost use mathlib.Core.List.{_++_};
 ghost use Prim.Native.Nat.{ℕ, _+_, _*_, _-_, _<_, _≤_};
 ghost use lib.Dec.{eqb};
-ghost use lib.ListN.{length, getD, take, drop};
-ghost use Rattle.poly.specs.Tab.{tab};
+ghost use lib.ListN.{length, getD, drop};
 ghost use Rattle.bundle_storage.specs.Bytes.{inBytes};
 ghost use Rattle.bundle_read.specs.Reading.{some-meets, badWord};
+ghost use Rattle.bundle_read.specs.Laying.{wordsLaid, bytesLaid};
 
 // Whether a symbol of the message is no word.
 pub fn bad_word(message: &[u32]) -> bool
@@ -51,8 +50,9 @@ pub fn bad_bytes(message: &[u32], from: usize) -> bool
 
 // The first words of the message, so many, from an index of the file on.
 fn lay_message(message: &[u32], count: usize, from: usize, file: &mut [u8])
-    requires { ⌜ (count ≤ length (now message)) × (from + 2 * count ≤ length (now file)) × ((j : ℕ) → j < length (now message) → getD (now message) j 0 < 65536) ⌝ }
-    ensures { λ _. ⌜ now (file .exit) ≡ take from (now (file .entry)) ++ (tab (2 * count) (λ j. getD (inBytes (now (message .entry))) j 0) ++ drop (from + 2 * count) (now (file .entry))) ⌝ }
+    requires { ⌜ (count ≤ length (now message)) × (from + 2 * count ≤ length (now file))
+        × ((j : ℕ) → j < length (now message) → getD (now message) j 0 < 65536) ⌝ }
+    ensures { λ _. ⌜ now (file .exit) ≡ wordsLaid (now (message .entry)) count from (now (file .entry)) ⌝ }
 {
     let mut i = 0;
     while i < count {
@@ -64,7 +64,7 @@ fn lay_message(message: &[u32], count: usize, from: usize, file: &mut [u8])
 // The bytes of the message's words from an index of the file on, as many as there is room for, which may end with the first byte of a word.
 pub fn lay_bytes(message: &[u32], from: usize, file: &mut [u8])
     requires { ⌜ ((j : ℕ) → j < length (now message) → getD (now message) j 0 < 65536) ⌝ }
-    ensures { λ _. ⌜ now (file .exit) ≡ take from (now (file .entry)) ++ (take (length (now (file .entry)) - from) (inBytes (now (message .entry))) ++ drop (from + 2 * length (now (message .entry))) (now (file .entry))) ⌝ }
+    ensures { λ _. ⌜ now (file .exit) ≡ bytesLaid (now (message .entry)) from (now (file .entry)) ⌝ }
 {
     if file.len() <= from {
         return;

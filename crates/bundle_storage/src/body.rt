@@ -15,7 +15,8 @@ ghost use Rattle.bundle_storage.specs.Storage.{stored, listAt, bodySize,
 
 // The symbol of block b into its body, of whose overflow list done entries are written: 65536 is listed, and its word is 00 00.
 pub fn store(body: &mut [u8], count: usize, done: usize, b: usize, symbol: u32)
-    requires { ⌜ (2 * done + 1 < length (now body)) × (2 * count + 2 * b + 1 < length (now body)) × (b < 65536) × (symbol < 65537) ⌝ }
+    requires { ⌜ (2 * done + 1 < length (now body)) × (2 * count + 2 * b + 1 < length (now body)) × (b < 65536)
+        × (symbol < 65537) ⌝ }
     ensures { λ _. ⌜ now (body .exit) ≡ stored 0 count done b symbol (now (body .entry)) ⌝ }
 {
     if symbol == 65536 {
@@ -56,7 +57,8 @@ fn is_next(bytes: &[u8], words: usize, cursor: usize, b: usize) -> bool
 // The symbol of block b: 65536 where it is listed, else its word.
 pub fn symbol_at(bytes: &[u8], words: usize, cursor: usize, b: usize) -> u32
     requires { ⌜ ((at : ℕ) × (B : ℕ) × (c : ℕ) × Placed at B c (now bytes) b words cursor) ⌝ }
-    ensures { λ r. ⌜ ((at B c : ℕ) → Placed at B c (now (bytes .entry)) b words cursor → r ≡ symbolIn c (drop at (now (bytes .entry))) b) ⌝ }
+    ensures { λ r. ⌜ ((at B c : ℕ) → Placed at B c (now (bytes .entry)) b words cursor
+        → r ≡ symbolIn c (drop at (now (bytes .entry))) b) ⌝ }
 {
     if is_next(bytes, words, cursor, b) {
         return 65536;
@@ -67,7 +69,8 @@ pub fn symbol_at(bytes: &[u8], words: usize, cursor: usize, b: usize) -> u32
 // The cursor of the block behind the one that has this symbol: only a listed symbol is 65536.
 pub fn cursor_after(cursor: usize, symbol: u32) -> usize
     requires { ⌜ cursor < 4294967296 ⌝ }
-    ensures { λ r. ⌜ ((at B c b words : ℕ) (s : List ℕ) → Bytes s → Placed at B c s b words cursor → symbol ≡ symbolIn c (drop at s) b → r ≡ cursorAt at c s (suc b)) ⌝ }
+    ensures { λ r. ⌜ ((at B c b words : ℕ) (s : List ℕ) → Bytes s → Placed at B c s b words cursor
+        → symbol ≡ symbolIn c (drop at s) b → r ≡ cursorAt at c s (suc b)) ⌝ }
 {
     if symbol == 65536 {
         return cursor + 2;

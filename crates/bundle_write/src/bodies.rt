@@ -32,9 +32,11 @@ ghost use Rattle.bundle_write.specs.Writing.{Progress};
 
 // The symbol of block b into the body of shadow i, which the table has placed.
 fn put_symbol(out: &mut [u8], i: usize, blocks: usize, b: usize, done: usize, symbol: u32)
-    requires { ⌜ (entryAt i + entrySize ≤ length (now out)) × (offsetIn (now out) i + bodySize blocks (countIn (now out) i) ≤ length (now out)) × (blocks < 65536) ⌝ }
+    requires { ⌜ (entryAt i + entrySize ≤ length (now out))
+        × (offsetIn (now out) i + bodySize blocks (countIn (now out) i) ≤ length (now out)) × (blocks < 65536) ⌝ }
     requires { ⌜ (b < blocks) × (done ≤ countIn (now out) i) × (symbol < 65537) ⌝ }
-    ensures { λ _. ⌜ now (out .exit) ≡ stored (offsetIn (now (out .entry)) i) (countIn (now (out .entry)) i) done b symbol (now (out .entry)) ⌝ }
+    ensures { λ _. ⌜ now (out .exit)
+        ≡ stored (offsetIn (now (out .entry)) i) (countIn (now (out .entry)) i) done b symbol (now (out .entry)) ⌝ }
 {
     let count = count_in(out, i);
     let at = offset_in(out, i);
@@ -43,7 +45,8 @@ fn put_symbol(out: &mut [u8], i: usize, blocks: usize, b: usize, done: usize, sy
 
 // The symbols of block b into the bodies.
 fn store_block(k: usize, n: usize, file: &[u8], b: usize, out: &mut [u8], cells: &[u32])
-    requires { ⌜ (badBundleShape k n (length (now file)) ≡ false) × (b < blocksOf k (length (now file))) × Progress k n (now file) b (now out) ⌝ }
+    requires { ⌜ (badBundleShape k n (length (now file)) ≡ false) × (b < blocksOf k (length (now file)))
+        × Progress k n (now file) b (now out) ⌝ }
     requires { ⌜ Counted k n (now file) b (now cells) ⌝ }
     requires { ⌜ Coded k n (now file) b (now cells) ⌝ }
     ensures { λ _. ⌜ Onward (fileBundle k n (now (file .entry))) (now (out .entry)) (now (out .exit)) ⌝ }
@@ -59,7 +62,8 @@ fn store_block(k: usize, n: usize, file: &[u8], b: usize, out: &mut [u8], cells:
 }
 
 fn write_block(k: usize, n: usize, file: &[u8], b: usize, out: &mut [u8], cells: &mut [u32])
-    requires { ⌜ (badBundleShape k n (length (now file)) ≡ false) × (b < blocksOf k (length (now file))) × Progress k n (now file) b (now out) × Counted k n (now file) b (now cells) ⌝ }
+    requires { ⌜ (badBundleShape k n (length (now file)) ≡ false) × (b < blocksOf k (length (now file)))
+        × Progress k n (now file) b (now out) × Counted k n (now file) b (now cells) ⌝ }
     ensures { λ _. ⌜ Onward (fileBundle k n (now (file .entry))) (now (out .entry)) (now (out .exit)) ⌝ }
     ensures { λ _. ⌜ Progress k n (now (file .entry)) (suc b) (now (out .exit)) ⌝ }
     ensures { λ _. ⌜ Counted k n (now (file .entry)) (suc b) (now (cells .exit)) ⌝ }
@@ -72,7 +76,8 @@ fn write_block(k: usize, n: usize, file: &[u8], b: usize, out: &mut [u8], cells:
 
 // The bodies, block by block, where the table has placed them.
 fn write_bodies(k: usize, n: usize, file: &[u8], out: &mut [u8], cells: &mut [u32])
-    requires { ⌜ (badBundleShape k n (length (now file)) ≡ false) × Progress k n (now file) 0 (now out) × (length (now cells) ≡ 2 * sizeOf n) ⌝ }
+    requires { ⌜ (badBundleShape k n (length (now file)) ≡ false) × Progress k n (now file) 0 (now out)
+        × (length (now cells) ≡ 2 * sizeOf n) ⌝ }
     ensures { λ _. ⌜ now (out .exit) ≡ written (fileBundle k n (now (file .entry))) (now (out .entry)) ⌝ }
 {
     let blocks = blocks(k, file.len());
@@ -86,7 +91,8 @@ fn write_bodies(k: usize, n: usize, file: &[u8], out: &mut [u8], cells: &mut [u3
 
 // The whole bundle with 2N cells.
 fn write_within(k: usize, n: usize, file: &[u8], out: &mut [u8], cells: &mut [u32]) -> usize
-    requires { ⌜ (badBundleShape k n (length (now file)) ≡ false) × (length (fileBundle k n (now file)) ≤ length (now out)) × (length (now cells) ≡ 2 * sizeOf n) ⌝ }
+    requires { ⌜ (badBundleShape k n (length (now file)) ≡ false)
+        × (length (fileBundle k n (now file)) ≤ length (now out)) × (length (now cells) ≡ 2 * sizeOf n) ⌝ }
     ensures { λ r. ⌜ r ≡ length (fileBundle k n (now (file .entry))) ⌝ }
     ensures { λ _. ⌜ now (out .exit) ≡ written (fileBundle k n (now (file .entry))) (now (out .entry)) ⌝ }
 {
@@ -102,7 +108,8 @@ fn write_within(k: usize, n: usize, file: &[u8], out: &mut [u8], cells: &mut [u3
 
 // The whole bundle at the output's front, and its length; cells is the stated working space.
 pub fn write_all(k: usize, n: usize, file: &[u8], out: &mut [u8], cells: &mut [u32]) -> usize
-    requires { ⌜ (badBundleShape k n (length (now file)) ≡ false) × (writeRoom n (blocksOf k (length (now file))) ≤ length (now out)) × (length (now cells) ≡ workRoom n) ⌝ }
+    requires { ⌜ (badBundleShape k n (length (now file)) ≡ false)
+        × (writeRoom n (blocksOf k (length (now file))) ≤ length (now out)) × (length (now cells) ≡ workRoom n) ⌝ }
     ensures { λ r. ⌜ r ≡ length (fileBundle k n (now (file .entry))) ⌝ }
     ensures { λ _. ⌜ now (out .exit) ≡ written (fileBundle k n (now (file .entry))) (now (out .entry)) ⌝ }
     ensures { λ _. ⌜ now (cells .exit) ≡ replicate (workRoom n) 0 ⌝ }

@@ -16,7 +16,8 @@ ghost use Rattle.code.specs.Rooms.{encodeRoom};
 // The message as the first of N coefficients, the others 0.
 fn lay(message: &[u32], cells: &mut [u32])
     requires { ⌜ length (now message) ≤ length (now cells) ⌝ }
-    ensures { λ _. ⌜ now (cells .exit) ≡ now (message .entry) ++ replicate (length (now (cells .entry)) - length (now (message .entry))) 0 ⌝ }
+    ensures { λ _. ⌜ now (cells .exit)
+        ≡ now (message .entry) ++ replicate (length (now (cells .entry)) - length (now (message .entry))) 0 ⌝ }
 {
     copy(message, cells);
     clear(&mut cells[message.len()..]);

@@ -24,5 +24,8 @@ unfoldable pub valuesBetween : ℕ → ℕ → List ℕ → List ℕ
 valuesBetween N K f = tab K (λ i. value f (between N K i) % 65537)
 
 -- N coefficients folded to K: coefficient i times ψ^i, and those added up whose indices are the same modulo K
+abbrev pub foldedAt : ℕ → ℕ → List ℕ → ℕ → ℕ
+foldedAt N K f i = total (N / K) (λ b. getD f (b * K + i) 0 * power (psi N) (b * K + i)) % 65537
+
 unfoldable pub folded : ℕ → ℕ → List ℕ → List ℕ
-folded N K f = tab K (λ i. total (N / K) (λ b. getD f (b * K + i) 0 * power (psi N) (b * K + i)) % 65537)
+folded N K f = tab K (foldedAt N K f)

@@ -3,19 +3,17 @@
 use cells::wide;
 use transform_table::transform_by;
 ghost use mathlib.Core.Path.{_≡_};
-ghost use Prim.Native.Nat.{_+_, _*_, _/_, _%_, _<_};
-ghost use lib.ListN.{getD, take};
-ghost use Rattle.field.specs.Field.{power};
+ghost use Prim.Native.Nat.{_<_};
+ghost use lib.ListN.{take};
 ghost use Rattle.field.specs.Symbol.{IsSymbol};
-ghost use Rattle.poly.specs.Sum.{total};
 ghost use Rattle.transform_table.specs.Part.{replaced};
-ghost use Rattle.decode_between.specs.Between.{psi, valuesBetween, folded};
+ghost use Rattle.decode_between.specs.Between.{valuesBetween, foldedAt, folded};
 ghost use Rattle.decode_between.specs.Foldable.{Foldable};
 
 // The coefficients whose indices are i modulo K, each times its power of ψ, added up in 64 bits and reduced once.
 fn fold_one(size: usize, step: usize, i: usize, cells: &[u32]) -> u32
     requires { ⌜ Foldable size step (now cells) × (i < step) ⌝ }
-    ensures { λ r. ⌜ IsSymbol r (total (size / step) (λ b. getD (now (cells .entry)) (b * step + i) 0 * power (psi size) (b * step + i)) % 65537) ⌝ }
+    ensures { λ r. ⌜ IsSymbol r (foldedAt size step (now (cells .entry)) i) ⌝ }
 {
     let rows = size / step;
     let table = 3 * size;
@@ -32,7 +30,8 @@ fn fold_one(size: usize, step: usize, i: usize, cells: &[u32]) -> u32
 
 fn fold(size: usize, step: usize, cells: &mut [u32])
     requires { ⌜ Foldable size step (now cells) ⌝ }
-    ensures { λ _. ⌜ now (cells .exit) ≡ replaced size step (now (cells .entry)) (folded size step (take size (now (cells .entry)))) ⌝ }
+    ensures { λ _. ⌜ now (cells .exit)
+        ≡ replaced size step (now (cells .entry)) (folded size step (take size (now (cells .entry)))) ⌝ }
 {
     let mut i = 0;
     while i < step {
@@ -44,7 +43,8 @@ fn fold(size: usize, step: usize, cells: &mut [u32])
 // The values at the K points between, by one transform of K.
 pub fn values_between(size: usize, step: usize, cells: &mut [u32])
     requires { ⌜ Foldable size step (now cells) ⌝ }
-    ensures { λ _. ⌜ now (cells .exit) ≡ replaced size step (now (cells .entry)) (valuesBetween size step (take size (now (cells .entry)))) ⌝ }
+    ensures { λ _. ⌜ now (cells .exit)
+        ≡ replaced size step (now (cells .entry)) (valuesBetween size step (take size (now (cells .entry)))) ⌝ }
 {
     fold(size, step, cells);
     transform_by(cells, size, step, 3 * size, 2 * size / step);

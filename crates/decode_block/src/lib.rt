@@ -41,8 +41,10 @@ fn mark_positions(positions: &[u32], marks: &mut [u32])
 
 // Each held value, times the number that stands at its position, in its place.
 fn multiply_in(positions: &[u32], values: &[u32], list: &mut [u32])
-    requires { ⌜ (length (now positions) ≡ length (now values)) × Inside (length (now list)) (now positions) × Apart (now positions) ⌝ }
-    ensures { λ _. ⌜ Multiplied (length (now (positions .entry))) (now (positions .entry)) (now (values .entry)) (now (list .entry)) (now (list .exit)) ⌝ }
+    requires { ⌜ (length (now positions) ≡ length (now values)) × Inside (length (now list)) (now positions)
+        × Apart (now positions) ⌝ }
+    ensures { λ _. ⌜ Multiplied (length (now (positions .entry))) (now (positions .entry)) (now (values .entry))
+        (now (list .entry)) (now (list .exit)) ⌝ }
 {
     let mut t = 0;
     while t < positions.len() {
@@ -55,7 +57,8 @@ fn multiply_in(positions: &[u32], values: &[u32], list: &mut [u32])
 // Whether a message fits, which then stands at the front of the stated working space.
 fn find_message(k: usize, n: usize, positions: &[u32], values: &[u32], cells: &mut [u32]) -> bool
     requires { ⌜ Decodable k n (held (now positions) (now values)) × (length (now cells) ≡ decodeRoom n) ⌝ }
-    ensures { λ r. ⌜ decodeOf k n (held (now (positions .entry)) (now (values .entry))) ≡ cond r (some (messageOf (take k (now (cells .exit))))) none ⌝ }
+    ensures { λ r. ⌜ decodeOf k n (held (now (positions .entry)) (now (values .entry)))
+        ≡ cond r (some (messageOf (take k (now (cells .exit))))) none ⌝ }
 {
     let size = size(n);
     mark_positions(positions, &mut cells[2 * size..3 * size]);
@@ -73,8 +76,10 @@ pub fn recover(
     out: &mut [u32],
     cells: &mut [u32],
 ) -> Outcome
-    requires { ⌜ Decodable k n (held (now positions) (now values)) × (k ≤ length (now out)) × (length (now cells) ≡ decodeRoom n) ⌝ }
-    ensures { λ r. ⌜ leaving (toldOutcome r) (now (out .exit)) (now (cells .exit)) ≡ decoded (decodeOf k n (held (now (positions .entry)) (now (values .entry)))) n (now (out .entry)) (now (cells .entry)) ⌝ }
+    requires { ⌜ Decodable k n (held (now positions) (now values)) × (k ≤ length (now out))
+        × (length (now cells) ≡ decodeRoom n) ⌝ }
+    ensures { λ r. ⌜ leaving (toldOutcome r) (now (out .exit)) (now (cells .exit))
+        ≡ decoded (decodeOf k n (held (now (positions .entry)) (now (values .entry)))) n (now (out .entry)) (now (cells .entry)) ⌝ }
 {
     if find_message(k, n, positions, values, cells) {
         copy(&cells[0..k], out);

@@ -13,16 +13,12 @@ ghost use mathlib.Core.Bool.{false};
 ghost use mathlib.Core.List.{List, _++_};
 ghost use Prim.Native.Nat.{ℕ, _+_, _*_, _<_, _≤_};
 ghost use lib.ListN.{length, getD, take, drop};
-ghost use Rattle.field.specs.Field.{product, inverse};
-ghost use Rattle.field.specs.Points.{rootOf};
 ghost use Rattle.limits.specs.Shape.{badShape};
 ghost use Rattle.field.specs.Size.{sizeOf};
 ghost use Rattle.poly.specs.Tab.{tab};
-ghost use Rattle.transform_halving.specs.Transform.{sums};
-ghost use Rattle.transform_table.specs.Part.{replaced};
 ghost use Rattle.decode_between.specs.Foldable.{PsiTable, Foldable};
 ghost use Rattle.decode_divide.specs.Dividing.{ZeroAt, Divided};
-ghost use Rattle.decode_divide.specs.Quotients.{InversesBetween, quotients, untwisted};
+ghost use Rattle.decode_divide.specs.Quotients.{InversesBetween, withQuotients, untwisted, quotientIn};
 ghost use Rattle.decode_divide.specs.Tests.{ZeroFrom, Decides};
 
 // Whether all numbers from an index on are 0.
@@ -42,7 +38,7 @@ fn zero_from(list: &[u32], from: usize) -> bool
 // The values at the points between, each divided by N·K·M.
 fn divide_values(size: usize, step: usize, cells: &mut [u32])
     requires { ⌜ (length (now cells) ≡ 4 * size) × (step ≤ size) ⌝ }
-    ensures { λ _. ⌜ now (cells .exit) ≡ replaced size step (now (cells .entry)) (tab step (λ i. product (getD (now (cells .entry)) (size + i) 0) (getD (now (cells .entry)) (2 * size + i) 0))) ⌝ }
+    ensures { λ _. ⌜ now (cells .exit) ≡ withQuotients size step (now (cells .entry)) ⌝ }
 {
     let inverses = 2 * size;
     let mut i = 0;
@@ -66,7 +62,8 @@ fn untwist_one(size: usize, i: usize, cells: &[u32]) -> u32
 // The coefficients, to the front.
 fn untwist(k: usize, size: usize, cells: &mut [u32])
     requires { ⌜ PsiTable size (now cells) × (k ≤ size) × (getD (now cells) size 0 < 65537) ⌝ }
-    ensures { λ _. ⌜ now (cells .exit) ≡ tab k (untwisted size (drop size (now (cells .entry)))) ++ drop k (now (cells .entry)) ⌝ }
+    ensures { λ _. ⌜ now (cells .exit)
+        ≡ tab k (untwisted size (drop size (now (cells .entry)))) ++ drop k (now (cells .entry)) ⌝ }
 {
     let mut i = 0;
     while i < k {
@@ -78,7 +75,7 @@ fn untwist(k: usize, size: usize, cells: &mut [u32])
 // From the coefficients of N·f·M in front to those of f, where some point is missing.
 fn quotient(k: usize, size: usize, step: usize, cells: &mut [u32])
     requires { ⌜ Foldable size step (now cells) × (k ≤ step) ⌝ }
-    ensures { λ _. ⌜ take k (now (cells .exit)) ≡ tab k (untwisted size (sums (inverse (rootOf step)) (quotients size step (take size (now (cells .entry))) (drop (2 * size) (now (cells .entry)))))) ⌝ }
+    ensures { λ _. ⌜ take k (now (cells .exit)) ≡ quotientIn k size step (now (cells .entry)) ⌝ }
     ensures { λ _. ⌜ drop (2 * size) (now (cells .exit)) ≡ drop (2 * size) (now (cells .entry)) ⌝ }
 {
     values_between(size, step, cells);
@@ -91,7 +88,9 @@ fn quotient(k: usize, size: usize, step: usize, cells: &mut [u32])
 // M is monic, so f·M has no coefficient from k + missing on. Where nothing is missing M is 1.
 pub fn divide(k: usize, n: usize, missing: usize, cells: &mut [u32]) -> bool
     requires { ⌜ (badShape k n ≡ false) × Foldable (sizeOf n) (sizeOf k) (now cells) × (missing ≤ sizeOf n) ⌝ }
-    ensures { λ r. ⌜ ((zs : List ℕ) → length zs ≡ missing → ZeroAt k zs (take (sizeOf n) (now (cells .entry))) → (0 < missing → InversesBetween (sizeOf n) (sizeOf k) zs (drop (2 * sizeOf n) (now (cells .entry)))) → Divided r k zs (take (sizeOf n) (now (cells .entry))) (take k (now (cells .exit)))) ⌝ }
+    ensures { λ r. ⌜ ((zs : List ℕ) → length zs ≡ missing → ZeroAt k zs (take (sizeOf n) (now (cells .entry)))
+        → (0 < missing → InversesBetween (sizeOf n) (sizeOf k) zs (drop (2 * sizeOf n) (now (cells .entry))))
+        → Divided r k zs (take (sizeOf n) (now (cells .entry))) (take k (now (cells .exit)))) ⌝ }
     ensures { λ _. ⌜ drop (2 * sizeOf n) (now (cells .exit)) ≡ drop (2 * sizeOf n) (now (cells .entry)) ⌝ }
 {
     let step = size(k);

@@ -12,12 +12,14 @@ ghost use lib.Dec.{eqb};
 ghost use lib.ListN.{length, getD, take, drop, set, replicate};
 ghost use Rattle.field.specs.Size.{sizeOf};
 ghost use Rattle.decode_missing.specs.Missing.{missingPoints};
+ghost use Rattle.decode_missing.specs.Marks.{marksAt};
 
 // The point before the others, where its position has no mark; what is returned is where the points begin.
 fn lay_point(cells: &mut [u32], mark: usize, place: usize, point: u32) -> usize
     requires { ⌜ (mark < length (now cells)) × (0 < place) × (place ≤ length (now cells)) ⌝ }
     ensures { λ r. ⌜ r ≡ cond (eqb (getD (now (cells .entry)) mark 0) 0) (place - 1) place ⌝ }
-    ensures { λ _. ⌜ now (cells .exit) ≡ cond (eqb (getD (now (cells .entry)) mark 0) 0) (set (now (cells .entry)) (place - 1) point) (now (cells .entry)) ⌝ }
+    ensures { λ _. ⌜ now (cells .exit)
+        ≡ cond (eqb (getD (now (cells .entry)) mark 0) 0) (set (now (cells .entry)) (place - 1) point) (now (cells .entry)) ⌝ }
 {
     if cells[mark] != 0 {
         return place;
@@ -30,8 +32,9 @@ fn lay_point(cells: &mut [u32], mark: usize, place: usize, point: u32) -> usize
 // The missing points, and how many they are.
 pub fn lay_missing(size: usize, cells: &mut [u32]) -> usize
     requires { ⌜ (length (now cells) ≡ 4 * size) × (size ≡ sizeOf size) × (take size (now cells) ≡ replicate size 0) ⌝ }
-    ensures { λ r. ⌜ r ≡ length (missingPoints size (take size (drop (2 * size) (now (cells .entry))))) ⌝ }
-    ensures { λ r. ⌜ now (cells .exit) ≡ replicate (size - r) 0 ++ (missingPoints size (take size (drop (2 * size) (now (cells .entry)))) ++ drop size (now (cells .entry))) ⌝ }
+    ensures { λ r. ⌜ r ≡ length (missingPoints size (marksAt size (now (cells .entry)))) ⌝ }
+    ensures { λ r. ⌜ now (cells .exit)
+        ≡ replicate (size - r) 0 ++ (missingPoints size (marksAt size (now (cells .entry))) ++ drop size (now (cells .entry))) ⌝ }
 {
     let root = root(level(size));
     let marks = 2 * size;

@@ -19,7 +19,7 @@ ghost use mathlib.Core.Bool.{false};
 ghost use mathlib.Core.List.{_++_};
 ghost use Prim.Native.Nat.{_+_, _-_, _*_, _<_, _≤_};
 ghost use lib.ListN.{length, getD, take, drop, replicate};
-ghost use Rattle.field.specs.Field.{product, power, inverse};
+ghost use Rattle.field.specs.Field.{power};
 ghost use Rattle.limits.specs.Shape.{badShape};
 ghost use Rattle.field.specs.Size.{levelOf, sizeOf};
 ghost use Rattle.poly.specs.Tab.{tab};
@@ -29,6 +29,8 @@ ghost use Rattle.decode_between.specs.Between.{psi, valuesBetween};
 ghost use Rattle.decode_between.specs.Foldable.{Foldable};
 ghost use Rattle.decode_missing.specs.Missing.{missingPoints};
 ghost use Rattle.decode_prepare.specs.Prepared.{Prepared};
+ghost use Rattle.decode_missing.specs.Marks.{marksAt};
+ghost use Rattle.decode_prepare.specs.Inverted.{inversesOf};
 
 fn fill_ones(list: &mut [u32])
     ensures { λ _. ⌜ now (list .exit) ≡ tab (length (now (list .entry))) (λ i. 1) ⌝ }
@@ -43,7 +45,8 @@ fn fill_ones(list: &mut [u32])
 // One over N·K times each of the K values in the second N cells, to the third.
 fn invert(size: usize, step: usize, cells: &mut [u32])
     requires { ⌜ (length (now cells) ≡ 4 * size) × (step ≤ size) × (size ≤ 65536) ⌝ }
-    ensures { λ _. ⌜ now (cells .exit) ≡ replaced (2 * size) step (now (cells .entry)) (tab step (λ i. inverse (product (product size step) (getD (now (cells .entry)) (size + i) 0)))) ⌝ }
+    ensures { λ _. ⌜ now (cells .exit)
+        ≡ replaced (2 * size) step (now (cells .entry)) (inversesOf size step (λ i. getD (now (cells .entry)) (size + i) 0)) ⌝ }
 {
     let factor = product(size as u32, step as u32);
     let inverses = 2 * size;
@@ -58,7 +61,8 @@ fn invert(size: usize, step: usize, cells: &mut [u32])
 fn weigh(size: usize, step: usize, cells: &mut [u32])
     requires { ⌜ Foldable size step (now cells) ⌝ }
     ensures { λ _. ⌜ take size (now (cells .exit)) ≡ transformOf (take size (now (cells .entry))) ⌝ }
-    ensures { λ _. ⌜ take step (drop (2 * size) (now (cells .exit))) ≡ tab step (λ i. inverse (product (product size step) (getD (valuesBetween size step (take size (now (cells .entry)))) i 0))) ⌝ }
+    ensures { λ _. ⌜ take step (drop (2 * size) (now (cells .exit)))
+        ≡ inversesOf size step (λ i. getD (valuesBetween size step (take size (now (cells .entry)))) i 0) ⌝ }
     ensures { λ _. ⌜ drop (3 * size) (now (cells .exit)) ≡ drop (3 * size) (now (cells .entry)) ⌝ }
 {
     values_between(size, step, cells);
@@ -69,8 +73,9 @@ fn weigh(size: usize, step: usize, cells: &mut [u32])
 // The powers of ψ, and the missing points before the end of the first N cells; how many they are.
 fn begin(size: usize, cells: &mut [u32]) -> usize
     requires { ⌜ (length (now cells) ≡ 4 * size) × (size ≡ sizeOf size) × (levelOf size < 16) ⌝ }
-    ensures { λ r. ⌜ r ≡ length (missingPoints size (take size (drop (2 * size) (now (cells .entry))))) ⌝ }
-    ensures { λ r. ⌜ take size (now (cells .exit)) ≡ replicate (size - r) 0 ++ missingPoints size (take size (drop (2 * size) (now (cells .entry)))) ⌝ }
+    ensures { λ r. ⌜ r ≡ length (missingPoints size (marksAt size (now (cells .entry)))) ⌝ }
+    ensures { λ r. ⌜ take size (now (cells .exit))
+        ≡ replicate (size - r) 0 ++ missingPoints size (marksAt size (now (cells .entry))) ⌝ }
     ensures { λ _. ⌜ drop (3 * size) (now (cells .exit)) ≡ tab size (power (psi size)) ⌝ }
 {
     let twist = root(level(size) + 1);
@@ -81,8 +86,9 @@ fn begin(size: usize, cells: &mut [u32]) -> usize
 
 // How many positions are missing. Where none is M is 1.
 pub fn prepare(k: usize, n: usize, cells: &mut [u32]) -> usize
-    requires { ⌜ (badShape k n ≡ false) × (length (now cells) ≡ 4 * sizeOf n) × (length (missingPoints (sizeOf n) (take (sizeOf n) (drop (2 * sizeOf n) (now cells)))) < sizeOf n) ⌝ }
-    ensures { λ r. ⌜ Prepared k n (take (sizeOf n) (drop (2 * sizeOf n) (now (cells .entry)))) r (now (cells .exit)) ⌝ }
+    requires { ⌜ (badShape k n ≡ false) × (length (now cells) ≡ 4 * sizeOf n)
+        × (length (missingPoints (sizeOf n) (marksAt (sizeOf n) (now cells))) < sizeOf n) ⌝ }
+    ensures { λ r. ⌜ Prepared k n (marksAt (sizeOf n) (now (cells .entry))) r (now (cells .exit)) ⌝ }
 {
     let step = size(k);
     let size = size(n);

@@ -15,7 +15,8 @@ ghost use Rattle.transform_table.specs.Part.{part};
 // Numbers from a place on, to the front.
 fn bring(from: usize, count: usize, cells: &mut [u32])
     requires { ⌜ from + count ≤ length (now cells) ⌝ }
-    ensures { λ _. ⌜ now (cells .exit) ≡ tab count (λ i. getD (now (cells .entry)) (from + i) 0) ++ drop count (now (cells .entry)) ⌝ }
+    ensures { λ _. ⌜ now (cells .exit)
+        ≡ tab count (λ i. getD (now (cells .entry)) (from + i) 0) ++ drop count (now (cells .entry)) ⌝ }
 {
     let mut i = 0;
     while i < count {
@@ -27,9 +28,12 @@ fn bring(from: usize, count: usize, cells: &mut [u32])
 // The points stand at the end of the first N cells, and zeros before them. A power of two of numbers is multiplied out, some of the zeros with
 // the points: these only move the coefficients up.
 fn multiply_points(size: usize, missing: usize, cells: &mut [u32])
-    requires { ⌜ (length (now cells) ≡ 4 * size) × (size ≡ sizeOf size) × (levelOf size < 16) × (0 < missing) × (missing ≤ size) ⌝ }
-    requires { ⌜ (take (size - missing) (now cells) ≡ replicate (size - missing) 0) × Symbols (part (size - missing) missing (now cells)) ⌝ }
-    ensures { λ _. ⌜ part (size - missing) missing (now (cells .exit)) ≡ take missing (vanishing (part (size - missing) missing (now (cells .entry)))) ⌝ }
+    requires { ⌜ (length (now cells) ≡ 4 * size) × (size ≡ sizeOf size) × (levelOf size < 16) × (0 < missing)
+        × (missing ≤ size) ⌝ }
+    requires { ⌜ (take (size - missing) (now cells) ≡ replicate (size - missing) 0)
+        × Symbols (part (size - missing) missing (now cells)) ⌝ }
+    ensures { λ _. ⌜ part (size - missing) missing (now (cells .exit))
+        ≡ take missing (vanishing (part (size - missing) missing (now (cells .entry)))) ⌝ }
     ensures { λ _. ⌜ drop (2 * size) (now (cells .exit)) ≡ drop (2 * size) (now (cells .entry)) ⌝ }
 {
     let span = field::size(missing);
@@ -38,9 +42,12 @@ fn multiply_points(size: usize, missing: usize, cells: &mut [u32])
 
 // M's coefficients in front, and zeros behind them.
 pub fn lay_product(size: usize, missing: usize, cells: &mut [u32])
-    requires { ⌜ (length (now cells) ≡ 4 * size) × (size ≡ sizeOf size) × (levelOf size < 16) × (0 < missing) × (missing < size) ⌝ }
-    requires { ⌜ (take (size - missing) (now cells) ≡ replicate (size - missing) 0) × Symbols (part (size - missing) missing (now cells)) ⌝ }
-    ensures { λ _. ⌜ take size (now (cells .exit)) ≡ vanishing (part (size - missing) missing (now (cells .entry))) ++ replicate (size - missing - 1) 0 ⌝ }
+    requires { ⌜ (length (now cells) ≡ 4 * size) × (size ≡ sizeOf size) × (levelOf size < 16) × (0 < missing)
+        × (missing < size) ⌝ }
+    requires { ⌜ (take (size - missing) (now cells) ≡ replicate (size - missing) 0)
+        × Symbols (part (size - missing) missing (now cells)) ⌝ }
+    ensures { λ _. ⌜ take size (now (cells .exit))
+        ≡ vanishing (part (size - missing) missing (now (cells .entry))) ++ replicate (size - missing - 1) 0 ⌝ }
     ensures { λ _. ⌜ drop (2 * size) (now (cells .exit)) ≡ drop (2 * size) (now (cells .entry)) ⌝ }
 {
     multiply_points(size, missing, cells);

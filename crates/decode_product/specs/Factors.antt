@@ -1,8 +1,9 @@
 -- Products of X - z over a list of points, by their coefficients below the highest, which is 1: a list a of w numbers stands for
 -- a_0 + a_1·X + .. + X^w, and is multiplied so.
 use mathlib.Core.List.{List, _∷_, _++_}
-use Prim.Native.Nat.{ℕ, suc, _+_, _-_, _*_, _%_}
+use Prim.Native.Nat.{ℕ, suc, _+_, _-_, _*_, _/_, _%_}
 use lib.ListN.{length, getD, take, replicate}
+use Rattle.field.specs.Field.{product}
 use Rattle.poly.specs.Products.{vanishing}
 use Rattle.poly.specs.Sum.{total}
 use Rattle.poly.specs.Tab.{tab}
@@ -27,6 +28,10 @@ coefficient a b i = (crossed a b i + (getD (replicate (length b) 0 ++ a) i 0 + g
 -- the product's coefficients below the highest
 unfoldable pub monicTimes : List ℕ → List ℕ → List ℕ
 monicTimes a b = tab (length a + length b) (coefficient a b)
+
+-- the numbers of the front half, each times the one at its place in the back half
+abbrev pub pairProducts : List ℕ → List ℕ
+pairProducts d = tab (length d / 2) (λ i. product (getD d i 0) (getD d (length d / 2 + i) 0))
 
 -- with the highest coefficient, and zeros behind it up to twice the length
 abbrev pub paddedMonic : List ℕ → List ℕ

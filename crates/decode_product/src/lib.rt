@@ -21,7 +21,8 @@ const LONG: usize = 512;
 
 fn multiply(cells: &mut [u32])
     requires { ⌜ TwoFactors (now cells) ⌝ }
-    ensures { λ _. ⌜ take (length (now (cells .entry)) / 2) (now (cells .exit)) ≡ monicTimes (firstFactor (now (cells .entry))) (secondFactor (now (cells .entry))) ⌝ }
+    ensures { λ _. ⌜ take (length (now (cells .entry)) / 2) (now (cells .exit))
+        ≡ monicTimes (firstFactor (now (cells .entry))) (secondFactor (now (cells .entry))) ⌝ }
 {
     if cells.len() / 4 < LONG {
         crate::sums::multiply(cells);
@@ -33,7 +34,8 @@ fn multiply(cells: &mut [u32])
 // The product over S points that stand at the front of 2S cells, in their place: its S coefficients below the highest. The other S cells are room.
 pub fn multiply_out(cells: &mut [u32])
     requires { ⌜ SymbolsInFront (now cells) ⌝ }
-    ensures { λ _. ⌜ take (length (now (cells .entry)) / 2) (now (cells .exit)) ≡ lowersOf (take (length (now (cells .entry)) / 2) (now (cells .entry))) ⌝ }
+    ensures { λ _. ⌜ take (length (now (cells .entry)) / 2) (now (cells .exit))
+        ≡ lowersOf (take (length (now (cells .entry)) / 2) (now (cells .entry))) ⌝ }
 {
     if cells.len() / 2 <= FEW {
         multiply_few(cells);

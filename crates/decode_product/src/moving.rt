@@ -7,7 +7,8 @@ ghost use Rattle.decode_product.specs.Halves.{repeated};
 
 // The two places lie apart, so that no number is lost before it is read.
 pub fn repeat(cells: &mut [u32], from: usize, to: usize, count: usize)
-    requires { ⌜ (from + count ≤ length (now cells)) × (to + count ≤ length (now cells)) × ((to + count ≤ from) ⊎ (from + count ≤ to)) ⌝ }
+    requires { ⌜ (from + count ≤ length (now cells)) × (to + count ≤ length (now cells))
+        × ((to + count ≤ from) ⊎ (from + count ≤ to)) ⌝ }
     ensures { λ _. ⌜ now (cells .exit) ≡ repeated from to count (now (cells .entry)) ⌝ }
 {
     let mut i = 0;

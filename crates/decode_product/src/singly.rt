@@ -3,7 +3,7 @@ use crate::moving::repeat;
 use field::difference;
 use field::product;
 ghost use mathlib.Core.Path.{_≡_};
-ghost use Prim.Native.Nat.{_/_, _<_};
+ghost use Prim.Native.Nat.{_/_};
 ghost use lib.ListN.{length, take};
 ghost use Rattle.field.specs.Symbol.{Symbols};
 ghost use Rattle.poly.specs.Raised.{raised};
@@ -28,7 +28,8 @@ fn raise(cells: &mut [u32], x: u32)
 // In the room, from the last point down; the 1 written before a step is the highest coefficient.
 pub fn multiply_few(cells: &mut [u32])
     requires { ⌜ SymbolsInFront (now cells) ⌝ }
-    ensures { λ _. ⌜ take (length (now (cells .entry)) / 2) (now (cells .exit)) ≡ lowersOf (take (length (now (cells .entry)) / 2) (now (cells .entry))) ⌝ }
+    ensures { λ _. ⌜ take (length (now (cells .entry)) / 2) (now (cells .exit))
+        ≡ lowersOf (take (length (now (cells .entry)) / 2) (now (cells .entry))) ⌝ }
 {
     let half = cells.len() / 2;
     let mut left = half;

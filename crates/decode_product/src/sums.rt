@@ -10,7 +10,8 @@ ghost use Rattle.decode_product.specs.Halves.{TwoFactors, firstFactor, s
 // The products of a_from up to a_(to-1) with b_(to-1) down to b_from, added up. None is above 2^32, and there are no more than 2^14 of them.
 fn run(cells: &[u32], from: usize, to: usize) -> u64
     requires { ⌜ TwoFactors (now cells) × (from ≤ to) × (to ≤ length (now cells) / 4) ⌝ }
-    ensures { λ r. ⌜ (r ≡ run (firstFactor (now (cells .entry))) (secondFactor (now (cells .entry))) from to) × (r ≤ 70368744177664) ⌝ }
+    ensures { λ r. ⌜ (r ≡ run (firstFactor (now (cells .entry))) (secondFactor (now (cells .entry))) from to)
+        × (r ≤ 70368744177664) ⌝ }
 {
     let mut sum: u64 = 0;
     let mut i = from;
@@ -33,7 +34,8 @@ fn low(cells: &[u32], i: usize) -> u32
 // From the length on, each number of one list is met by the 1 of the other.
 fn high(cells: &[u32], i: usize) -> u32
     requires { ⌜ TwoFactors (now cells) × (i < length (now cells) / 4) ⌝ }
-    ensures { λ r. ⌜ r ≡ coefficient (firstFactor (now (cells .entry))) (secondFactor (now (cells .entry))) (length (now (cells .entry)) / 4 + i) ⌝ }
+    ensures { λ r. ⌜ r
+        ≡ coefficient (firstFactor (now (cells .entry))) (secondFactor (now (cells .entry))) (length (now (cells .entry)) / 4 + i) ⌝ }
 {
     let quarter = cells.len() / 4;
     let half = cells.len() / 2;
@@ -44,8 +46,10 @@ fn high(cells: &[u32], i: usize) -> u32
 // The coefficients to the room behind the two lists.
 fn fill(cells: &mut [u32])
     requires { ⌜ TwoFactors (now cells) ⌝ }
-    ensures { λ _. ⌜ take (length (now (cells .entry)) / 4) (drop (length (now (cells .entry)) / 4) (now (cells .exit))) ≡ take (length (now (cells .entry)) / 4) (monicTimes (firstFactor (now (cells .entry))) (secondFactor (now (cells .entry)))) ⌝ }
-    ensures { λ _. ⌜ drop (length (now (cells .entry)) / 4 * 3) (now (cells .exit)) ≡ drop (length (now (cells .entry)) / 4) (monicTimes (firstFactor (now (cells .entry))) (secondFactor (now (cells .entry)))) ⌝ }
+    ensures { λ _. ⌜ take (length (now (cells .entry)) / 4) (drop (length (now (cells .entry)) / 4) (now (cells .exit)))
+        ≡ take (length (now (cells .entry)) / 4) (monicTimes (firstFactor (now (cells .entry))) (secondFactor (now (cells .entry)))) ⌝ }
+    ensures { λ _. ⌜ drop (length (now (cells .entry)) / 4 * 3) (now (cells .exit))
+        ≡ drop (length (now (cells .entry)) / 4) (monicTimes (firstFactor (now (cells .entry))) (secondFactor (now (cells .entry)))) ⌝ }
 {
     let quarter = cells.len() / 4;
     let mut i = 0;
@@ -60,7 +64,8 @@ fn fill(cells: &mut [u32])
 
 pub fn multiply(cells: &mut [u32])
     requires { ⌜ TwoFactors (now cells) ⌝ }
-    ensures { λ _. ⌜ take (length (now (cells .entry)) / 2) (now (cells .exit)) ≡ monicTimes (firstFactor (now (cells .entry))) (secondFactor (now (cells .entry))) ⌝ }
+    ensures { λ _. ⌜ take (length (now (cells .entry)) / 2) (now (cells .exit))
+        ≡ monicTimes (firstFactor (now (cells .entry))) (secondFactor (now (cells .entry))) ⌝ }
 {
     let quarter = cells.len() / 4;
     fill(cells);

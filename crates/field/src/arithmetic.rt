@@ -1,5 +1,4 @@
 // Sum, difference, product, power and inverse of symbols. No entry points: sum and difference ask for symbols, the others take any number.
-ghost use mathlib.Core.Path.{_≡_};
 ghost use Prim.Native.Nat.{_<_};
 ghost use Rattle.field.specs.Field.{sum, difference, product, power, inverse};
 ghost use Rattle.field.specs.Symbol.{IsSymbol};

@@ -27,7 +27,8 @@ fn put_decimal(n: usize, out: &mut [u8], at: usize) -> usize
 // A word, and a number behind it.
 pub fn put_number(word: &[u8], n: usize, out: &mut [u8], at: usize) -> usize
     requires { ⌜ at + (length (now word) + 20) ≤ length (now out) ⌝ }
-    ensures { λ r. ⌜ Puts (now (word .entry) ++ decimal n) (length (now (word .entry)) + 20) at (now (out .entry)) r (now (out .exit)) ⌝ }
+    ensures { λ r. ⌜ Puts (now (word .entry) ++ decimal n) (length (now (word .entry)) + 20) at
+        (now (out .entry)) r (now (out .exit)) ⌝ }
 {
     let next = put_text(word, out, at);
     put_decimal(n, out, next)

@@ -28,8 +28,10 @@ const MOST_LENGTH: usize = 24576;
 
 // Every block is decoded; of the file no byte is kept, since none is printed.
 fn blocks_answer(bundle: &[u8], cells: &mut [u32]) -> Outcome
-    requires { ⌜ (layoutChecks (now bundle) ≡ result []) × (kIn (now bundle) ≤ heldIn (now bundle)) × (length (now cells) ≡ workRoom (nIn (now bundle))) ⌝ }
-    ensures { λ r. ⌜ after (toldOutcome r) (result (lengthIn (now (bundle .entry)) ∷ [])) ≡ blocksAnswer (now (bundle .entry)) 0 (blocksIn (now (bundle .entry))) ⌝ }
+    requires { ⌜ (layoutChecks (now bundle) ≡ result []) × (kIn (now bundle) ≤ heldIn (now bundle))
+        × (length (now cells) ≡ workRoom (nIn (now bundle))) ⌝ }
+    ensures { λ r. ⌜ after (toldOutcome r) (result (lengthIn (now (bundle .entry)) ∷ []))
+        ≡ blocksAnswer (now (bundle .entry)) 0 (blocksIn (now (bundle .entry))) ⌝ }
 {
     let mut file = [0u8; 1];
     let missing = start(bundle, cells);
@@ -39,7 +41,8 @@ fn blocks_answer(bundle: &[u8], cells: &mut [u32]) -> Outcome
 // ROOM, FEW and the blocks, once the layout is good.
 fn served_answer(bundle: &[u8], work: &mut [u32]) -> Outcome
     requires { ⌜ (layoutChecks (now bundle) ≡ result []) × (length (now work) ≡ 8 * mostN) ⌝ }
-    ensures { λ r. ⌜ after (toldOutcome r) (result (lengthIn (now (bundle .entry)) ∷ [])) ≡ servedAnswer (now (bundle .entry)) ⌝ }
+    ensures { λ r. ⌜ after (toldOutcome r) (result (lengthIn (now (bundle .entry)) ∷ []))
+        ≡ servedAnswer (now (bundle .entry)) ⌝ }
 {
     let n = n_in(bundle);
     if MOST_N < n {
@@ -57,7 +60,8 @@ fn served_answer(bundle: &[u8], work: &mut [u32]) -> Outcome
 
 pub fn program_answer(input: &[u8], work: &mut [u32]) -> Outcome
     requires { ⌜ length (now work) ≡ 8 * mostN ⌝ }
-    ensures { λ r. ⌜ after (toldOutcome r) (result (lengthIn (now (input .entry)) ∷ [])) ≡ programAnswer (now (input .entry)) ⌝ }
+    ensures { λ r. ⌜ after (toldOutcome r) (result (lengthIn (now (input .entry)) ∷ []))
+        ≡ programAnswer (now (input .entry)) ⌝ }
 {
     if MOST_INPUT < input.len() {
         return Outcome::Refused(Refusal::Room);

@@ -33,7 +33,8 @@ fn alone(number: u32) -> bool
 // What is printed, at the front of text; where it ends is the answer.
 pub fn list(input: &[u8], text: &mut [u8], work: &mut [u32]) -> usize
     requires { ⌜ (textRoom ≤ length (now text)) × (length (now work) ≡ 8 * mostN) ⌝ }
-    ensures { λ r. ⌜ leaving (result (r ∷ [])) (now (text .exit)) (now (work .exit)) ≡ listLeaves (now (input .entry)) (now (text .entry)) (now (work .entry)) ⌝ }
+    ensures { λ r. ⌜ leaving (result (r ∷ [])) (now (text .exit)) (now (work .exit))
+        ≡ listLeaves (now (input .entry)) (now (text .entry)) (now (work .entry)) ⌝ }
 {
     let answer = program_answer(input, work);
     clear(work);

@@ -21,7 +21,8 @@ ghost use Rattle.listing_text.specs.Listing.{entryLines, listing};
 
 // A line takes at most 63 bytes: three numbers of 20 digits, two blanks and the line feed.
 fn put_entries(bundle: &[u8], held: usize, out: &mut [u8], at: usize) -> usize
-    requires { ⌜ (layoutChecks (now bundle) ≡ result []) × (held ≡ heldIn (now bundle)) × (at + 63 * held ≤ length (now out)) ⌝ }
+    requires { ⌜ (layoutChecks (now bundle) ≡ result []) × (held ≡ heldIn (now bundle))
+        × (at + 63 * held ≤ length (now out)) ⌝ }
     ensures { λ r. ⌜ Puts (entryLines (now (bundle .entry)) held) (63 * held) at (now (out .entry)) r (now (out .exit)) ⌝ }
 {
     let mut end = at;
@@ -39,7 +40,8 @@ fn put_entries(bundle: &[u8], held: usize, out: &mut [u8], at: usize) -> usize
 // From the front on.
 pub fn put_listing(bundle: &[u8], out: &mut [u8]) -> usize
     requires { ⌜ (layoutChecks (now bundle) ≡ result []) × (128 + 63 * heldIn (now bundle) ≤ length (now out)) ⌝ }
-    ensures { λ r. ⌜ Puts (listing (now (bundle .entry))) (128 + 63 * heldIn (now (bundle .entry))) 0 (now (out .entry)) r (now (out .exit)) ⌝ }
+    ensures { λ r. ⌜ Puts (listing (now (bundle .entry))) (128 + 63 * heldIn (now (bundle .entry))) 0
+        (now (out .entry)) r (now (out .exit)) ⌝ }
 {
     let held = held_in(bundle);
     let end = put_header_line(

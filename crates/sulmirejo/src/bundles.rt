@@ -33,7 +33,8 @@ pub extern "C" fn sulmirejo_write(
     work: &mut [u32],
     number: &mut usize,
 ) -> u32
-    ensures { λ r. ⌜ with-lists (status-number r (now (number .exit))) (now (out .exit)) (now (work .exit)) ≡ listsReturnedNumber (writeLeaves k n (now (file .entry)) (now (out .entry)) (now (work .entry))) ⌝ }
+    ensures { λ r. ⌜ with-lists (status-number r (now (number .exit))) (now (out .exit)) (now (work .exit))
+        ≡ listsReturnedNumber (writeLeaves k n (now (file .entry)) (now (out .entry)) (now (work .entry))) ⌝ }
 {
     let answer = bundle::write(k, n, file, out, work);
     tell_length(answer, number)
@@ -46,7 +47,8 @@ pub extern "C" fn sulmirejo_read(
     work: &mut [u32],
     number: &mut usize,
 ) -> u32
-    ensures { λ r. ⌜ with-lists (status-number r (now (number .exit))) (now (out .exit)) (now (work .exit)) ≡ listsReturnedNumber (readLeaves (now (bundle .entry)) (now (out .entry)) (now (work .entry))) ⌝ }
+    ensures { λ r. ⌜ with-lists (status-number r (now (number .exit))) (now (out .exit)) (now (work .exit))
+        ≡ listsReturnedNumber (readLeaves (now (bundle .entry)) (now (out .entry)) (now (work .entry))) ⌝ }
 {
     let answer = bundle::read(bundle, out, work);
     tell_length(answer, number)
@@ -63,7 +65,10 @@ pub extern "C" fn sulmirejo_facts(
     blocks: &mut usize,
     number: &mut usize,
 ) -> u32
-    ensures { λ r. ⌜ with-facts (status-number r (now (number .exit))) (now (k .exit)) (now (n .exit)) (now (length .exit)) (now (held .exit)) (now (blocks .exit)) ≡ factsReturned (factsAnswer (now (bundle .entry))) (now (k .entry)) (now (n .entry)) (now (length .entry)) (now (held .entry)) (now (blocks .entry)) ⌝ }
+    ensures { λ r. ⌜ with-facts (status-number r (now (number .exit)))
+        (now (k .exit)) (now (n .exit)) (now (length .exit)) (now (held .exit)) (now (blocks .exit))
+        ≡ factsReturned (factsAnswer (now (bundle .entry)))
+        (now (k .entry)) (now (n .entry)) (now (length .entry)) (now (held .entry)) (now (blocks .entry)) ⌝ }
 {
     match bundle_layout::facts_of(bundle) {
         FactsAnswer::Facts(facts) => {
@@ -88,7 +93,8 @@ pub extern "C" fn sulmirejo_entry(
     count: &mut usize,
     number: &mut usize,
 ) -> u32
-    ensures { λ r. ⌜ with-entry (status-number r (now (number .exit))) (now (position .exit)) (now (offset .exit)) (now (count .exit)) ≡ entryReturned (entryAnswer (now (bundle .entry)) index) (now (position .entry)) (now (offset .entry)) (now (count .entry)) ⌝ }
+    ensures { λ r. ⌜ with-entry (status-number r (now (number .exit))) (now (position .exit)) (now (offset .exit)) (now (count .exit))
+        ≡ entryReturned (entryAnswer (now (bundle .entry)) index) (now (position .entry)) (now (offset .entry)) (now (count .entry)) ⌝ }
 {
     match bundle_layout::entry_of(bundle, index) {
         EntryAnswer::Entry(entry) => {

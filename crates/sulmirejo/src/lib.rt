@@ -21,7 +21,8 @@ pub extern "C" fn sulmirejo_point(
     point: &mut u32,
     number: &mut usize,
 ) -> u32
-    ensures { λ r. ⌜ with-point (status-number r (now (number .exit))) (now (point .exit)) ≡ pointReturned (pointAnswer n position) (now (point .entry)) ⌝ }
+    ensures { λ r. ⌜ with-point (status-number r (now (number .exit))) (now (point .exit))
+        ≡ pointReturned (pointAnswer n position) (now (point .entry)) ⌝ }
 {
     match field_calls::point_at(n, Position(position)) {
         PointAnswer::Point(found) => {
@@ -35,7 +36,8 @@ pub extern "C" fn sulmirejo_point(
 
 #[no_mangle]
 pub extern "C" fn sulmirejo_transform(list: &mut [u32], work: &mut [u32], number: &mut usize) -> u32
-    ensures { λ r. ⌜ with-lists (status-number r (now (number .exit))) (now (list .exit)) (now (work .exit)) ≡ listsReturned (transformLeaves (now (list .entry)) (now (work .entry))) ⌝ }
+    ensures { λ r. ⌜ with-lists (status-number r (now (number .exit))) (now (list .exit)) (now (work .exit))
+        ≡ listsReturned (transformLeaves (now (list .entry)) (now (work .entry))) ⌝ }
 {
     let outcome = transform::transform(list, work);
     tell(outcome, number)
@@ -43,7 +45,8 @@ pub extern "C" fn sulmirejo_transform(list: &mut [u32], work: &mut [u32], number
 
 #[no_mangle]
 pub extern "C" fn sulmirejo_inverse(list: &mut [u32], work: &mut [u32], number: &mut usize) -> u32
-    ensures { λ r. ⌜ with-lists (status-number r (now (number .exit))) (now (list .exit)) (now (work .exit)) ≡ listsReturned (inverseLeaves (now (list .entry)) (now (work .entry))) ⌝ }
+    ensures { λ r. ⌜ with-lists (status-number r (now (number .exit))) (now (list .exit)) (now (work .exit))
+        ≡ listsReturned (inverseLeaves (now (list .entry)) (now (work .entry))) ⌝ }
 {
     let outcome = transform::inverse(list, work);
     tell(outcome, number)
@@ -58,7 +61,8 @@ pub extern "C" fn sulmirejo_encode(
     work: &mut [u32],
     number: &mut usize,
 ) -> u32
-    ensures { λ r. ⌜ with-lists (status-number r (now (number .exit))) (now (out .exit)) (now (work .exit)) ≡ listsReturned (encodeLeaves k n (now (message .entry)) (now (out .entry)) (now (work .entry))) ⌝ }
+    ensures { λ r. ⌜ with-lists (status-number r (now (number .exit))) (now (out .exit)) (now (work .exit))
+        ≡ listsReturned (encodeLeaves k n (now (message .entry)) (now (out .entry)) (now (work .entry))) ⌝ }
 {
     let outcome = block::encode(k, n, message, out, work);
     tell(outcome, number)
@@ -74,7 +78,8 @@ pub extern "C" fn sulmirejo_decode(
     work: &mut [u32],
     number: &mut usize,
 ) -> u32
-    ensures { λ r. ⌜ with-lists (status-number r (now (number .exit))) (now (out .exit)) (now (work .exit)) ≡ listsReturned (decodeLeaves k n (now (positions .entry)) (now (values .entry)) (now (out .entry)) (now (work .entry))) ⌝ }
+    ensures { λ r. ⌜ with-lists (status-number r (now (number .exit))) (now (out .exit)) (now (work .exit))
+        ≡ listsReturned (decodeLeaves k n (now (positions .entry)) (now (values .entry)) (now (out .entry)) (now (work .entry))) ⌝ }
 {
     let outcome = block::decode(k, n, positions, values, out, work);
     tell(outcome, number)

@@ -9,7 +9,8 @@ ghost use Rattle.sulmirejo.specs.Face.{with-room, roomReturned};
 
 // The room goes to out and work where there is one.
 fn tell_room(answer: RoomAnswer, out: &mut usize, work: &mut usize, number: &mut usize) -> u32
-    ensures { λ r. ⌜ with-room (status-number r (now (number .exit))) (now (out .exit)) (now (work .exit)) ≡ roomReturned (toldRoom answer) (now (out .entry)) (now (work .entry)) ⌝ }
+    ensures { λ r. ⌜ with-room (status-number r (now (number .exit))) (now (out .exit)) (now (work .exit))
+        ≡ roomReturned (toldRoom answer) (now (out .entry)) (now (work .entry)) ⌝ }
 {
     match answer {
         RoomAnswer::Space(space) => {
@@ -28,7 +29,8 @@ pub extern "C" fn sulmirejo_transform_room(
     work: &mut usize,
     number: &mut usize,
 ) -> u32
-    ensures { λ r. ⌜ with-room (status-number r (now (number .exit))) 0 (now (work .exit)) ≡ roomReturned (transformRoomAnswer length) 0 (now (work .entry)) ⌝ }
+    ensures { λ r. ⌜ with-room (status-number r (now (number .exit))) 0 (now (work .exit))
+        ≡ roomReturned (transformRoomAnswer length) 0 (now (work .entry)) ⌝ }
 {
     let mut none = 0;
     tell_room(rooms::transform_room(length), &mut none, work, number)
@@ -42,7 +44,8 @@ pub extern "C" fn sulmirejo_encode_room(
     work: &mut usize,
     number: &mut usize,
 ) -> u32
-    ensures { λ r. ⌜ with-room (status-number r (now (number .exit))) (now (out .exit)) (now (work .exit)) ≡ roomReturned (encodeRoomAnswer k n) (now (out .entry)) (now (work .entry)) ⌝ }
+    ensures { λ r. ⌜ with-room (status-number r (now (number .exit))) (now (out .exit)) (now (work .exit))
+        ≡ roomReturned (encodeRoomAnswer k n) (now (out .entry)) (now (work .entry)) ⌝ }
 {
     tell_room(rooms::encode_room(k, n), out, work, number)
 }
@@ -55,7 +58,8 @@ pub extern "C" fn sulmirejo_decode_room(
     work: &mut usize,
     number: &mut usize,
 ) -> u32
-    ensures { λ r. ⌜ with-room (status-number r (now (number .exit))) (now (out .exit)) (now (work .exit)) ≡ roomReturned (decodeRoomAnswer k n) (now (out .entry)) (now (work .entry)) ⌝ }
+    ensures { λ r. ⌜ with-room (status-number r (now (number .exit))) (now (out .exit)) (now (work .exit))
+        ≡ roomReturned (decodeRoomAnswer k n) (now (out .entry)) (now (work .entry)) ⌝ }
 {
     tell_room(rooms::decode_room(k, n), out, work, number)
 }
@@ -69,7 +73,8 @@ pub extern "C" fn sulmirejo_write_room(
     work: &mut usize,
     number: &mut usize,
 ) -> u32
-    ensures { λ r. ⌜ with-room (status-number r (now (number .exit))) (now (out .exit)) (now (work .exit)) ≡ roomReturned (writeRoomAnswer k n length) (now (out .entry)) (now (work .entry)) ⌝ }
+    ensures { λ r. ⌜ with-room (status-number r (now (number .exit))) (now (out .exit)) (now (work .exit))
+        ≡ roomReturned (writeRoomAnswer k n length) (now (out .entry)) (now (work .entry)) ⌝ }
 {
     tell_room(rooms::write_room(k, n, length), out, work, number)
 }
@@ -81,7 +86,8 @@ pub extern "C" fn sulmirejo_read_room(
     work: &mut usize,
     number: &mut usize,
 ) -> u32
-    ensures { λ r. ⌜ with-room (status-number r (now (number .exit))) (now (out .exit)) (now (work .exit)) ≡ roomReturned (readRoomAnswer (now (bundle .entry))) (now (out .entry)) (now (work .entry)) ⌝ }
+    ensures { λ r. ⌜ with-room (status-number r (now (number .exit))) (now (out .exit)) (now (work .exit))
+        ≡ roomReturned (readRoomAnswer (now (bundle .entry))) (now (out .entry)) (now (work .entry)) ⌝ }
 {
     tell_room(rooms::read_room(bundle), out, work, number)
 }

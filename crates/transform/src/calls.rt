@@ -22,7 +22,8 @@ fn one_of(back: bool, list: &mut [u32])
 
 // Both calls: the checks, the work in place, and the working space cleared.
 fn call(back: bool, list: &mut [u32], work: &mut [u32]) -> Outcome
-    ensures { λ r. ⌜ leaving (toldOutcome r) (now (list .exit)) (now (work .exit)) ≡ callLeaves back (now (list .entry)) (now (work .entry)) ⌝ }
+    ensures { λ r. ⌜ leaving (toldOutcome r) (now (list .exit)) (now (work .exit))
+        ≡ callLeaves back (now (list .entry)) (now (work .entry)) ⌝ }
 {
     let size = list.len();
     match transform_checks(list, work.len()) {
@@ -38,7 +39,8 @@ fn call(back: bool, list: &mut [u32], work: &mut [u32]) -> Outcome
 // A_j = sum over i of a_i · r^(ij), in place of the list. As much of the working space as the list is long is zero
 // afterwards.
 pub fn transform(list: &mut [u32], work: &mut [u32]) -> Outcome
-    ensures { λ r. ⌜ leaving (toldOutcome r) (now (list .exit)) (now (work .exit)) ≡ transformLeaves (now (list .entry)) (now (work .entry)) ⌝ }
+    ensures { λ r. ⌜ leaving (toldOutcome r) (now (list .exit)) (now (work .exit))
+        ≡ transformLeaves (now (list .entry)) (now (work .entry)) ⌝ }
 {
     call(false, list, work)
 }
@@ -46,7 +48,8 @@ pub fn transform(list: &mut [u32], work: &mut [u32]) -> Outcome
 // a_j = (1/N) · sum over i of A_i · r^(-ij), in place of the list. As much of the working space as the list is long is zero
 // afterwards.
 pub fn inverse(list: &mut [u32], work: &mut [u32]) -> Outcome
-    ensures { λ r. ⌜ leaving (toldOutcome r) (now (list .exit)) (now (work .exit)) ≡ inverseLeaves (now (list .entry)) (now (work .entry)) ⌝ }
+    ensures { λ r. ⌜ leaving (toldOutcome r) (now (list .exit)) (now (work .exit))
+        ≡ inverseLeaves (now (list .entry)) (now (work .entry)) ⌝ }
 {
     call(true, list, work)
 }

@@ -96,7 +96,8 @@ fn halve(list: &mut [u32], root: u32)
 }
 
 pub fn scale(list: &mut [u32], factor: u32)
-    ensures { λ _. ⌜ now (list .exit) ≡ tab (length (now (list .entry))) (λ j. product factor (getD (now (list .entry)) j 0)) ⌝ }
+    ensures { λ _. ⌜ now (list .exit)
+        ≡ tab (length (now (list .entry))) (λ j. product factor (getD (now (list .entry)) j 0)) ⌝ }
 {
     let mut i = 0;
     while i < list.len() {

@@ -33,7 +33,9 @@ pub fn lay_powers(root: u32, cells: &mut [u32])
 // The transforms of the halves lie side by side.
 fn join_by(cells: &mut [u32], at: usize, half: usize, table: usize, step: usize)
     requires { ⌜ Tabled (now cells) at (half + half) table step ⌝ }
-    ensures { λ _. ⌜ now (cells .exit) ≡ replaced at (half + half) (now (cells .entry)) (joinedHalves (rootOf (half + half)) (part at (half + half) (now (cells .entry)))) ⌝ }
+    ensures { λ _. ⌜ now (cells .exit)
+        ≡ replaced at (half + half) (now (cells .entry))
+        (joinedHalves (rootOf (half + half)) (part at (half + half) (now (cells .entry)))) ⌝ }
 {
     let middle = at + half;
     let mut front = at;
@@ -55,7 +57,8 @@ fn join_by(cells: &mut [u32], at: usize, half: usize, table: usize, step: usize)
 // Every second turn is a turn of the halves. "down to size 1, which changes nothing"
 fn halve_by(cells: &mut [u32], at: usize, size: usize, table: usize, step: usize)
     requires { ⌜ Tabled (now cells) at size table step ⌝ }
-    ensures { λ _. ⌜ now (cells .exit) ≡ replaced at size (now (cells .entry)) (halved (levelOf size) (rootOf size) (part at size (now (cells .entry)))) ⌝ }
+    ensures { λ _. ⌜ now (cells .exit)
+        ≡ replaced at size (now (cells .entry)) (halved (levelOf size) (rootOf size) (part at size (now (cells .entry)))) ⌝ }
 {
     if size < 2 {
         return;
@@ -69,7 +72,8 @@ fn halve_by(cells: &mut [u32], at: usize, size: usize, table: usize, step: usize
 
 pub fn transform_by(cells: &mut [u32], at: usize, size: usize, table: usize, step: usize)
     requires { ⌜ Tabled (now cells) at size table step ⌝ }
-    ensures { λ _. ⌜ now (cells .exit) ≡ replaced at size (now (cells .entry)) (transformOf (part at size (now (cells .entry)))) ⌝ }
+    ensures { λ _. ⌜ now (cells .exit)
+        ≡ replaced at size (now (cells .entry)) (transformOf (part at size (now (cells .entry)))) ⌝ }
 {
     let end = at + size;
     arrange(&mut cells[at..end]);
@@ -91,7 +95,8 @@ fn turn_round(list: &mut [u32])
 // The sums at the root's inverse, with no division by N: they are those at the root, turned round.
 pub fn back_by(cells: &mut [u32], at: usize, size: usize, table: usize, step: usize)
     requires { ⌜ Tabled (now cells) at size table step ⌝ }
-    ensures { λ _. ⌜ now (cells .exit) ≡ replaced at size (now (cells .entry)) (sums (inverse (rootOf size)) (part at size (now (cells .entry)))) ⌝ }
+    ensures { λ _. ⌜ now (cells .exit)
+        ≡ replaced at size (now (cells .entry)) (sums (inverse (rootOf size)) (part at size (now (cells .entry)))) ⌝ }
 {
     let end = at + size;
     transform_by(cells, at, size, table, step);

@@ -31,12 +31,7 @@ need_cxx() {
 
 # Proves the library, writes the archive, and makes the folder for programs over it.
 build_archive() {
-    local said
-    [ -f target/staticlib/libsulmirejo.a ] || echo "proving and building the library, which takes some minutes the first time" >&2
-    said=$(rt staticlib sulmirejo 2>&1) || {
-        echo "$said" >&2
-        exit 1
-    }
+    scripts/prove staticlib sulmirejo
     mkdir -p target/c
 }
 

@@ -1,4 +1,4 @@
-/* make K N FILE BUNDLE: the program behind bundles/make, which makes a bundle of any file with the library. Whatever goes wrong is said in a
+/* make k n FILE BUNDLE: the program behind bundles/make, which makes a bundle of any file with the library. Whatever goes wrong is said in a
  * sentence, with what to do about it. */
 #include "sulmirejo.h"
 
@@ -80,7 +80,7 @@ int main(int count, char **words)
 {
     size_t k, n, room = 0, work_room = 0, number = 0;
     if (count != 5 || !is_number(words[1], &k) || !is_number(words[2], &n)) {
-        fprintf(stderr, "usage: make K N FILE BUNDLE, K and N being whole numbers\n");
+        fprintf(stderr, "usage: make k n FILE BUNDLE, k and n being whole numbers\n");
         return 2;
     }
     uint8_t *file = find_memory(SULMIREJO_LONGEST_FILE + 1, 1);

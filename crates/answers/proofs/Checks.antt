@@ -1,14 +1,12 @@
 -- The laws of a chain of checks: what one tells that did not refuse, and what the chain answers where one refuses or all pass.
 -- Assumes nothing.
 use mathlib.Core.Path.{_≡_, refl, sym, ap, _∙_}
-use mathlib.Core.Bool.{Bool, true, false, cond, _||_}
+use mathlib.Core.Bool.{Bool, true, false, _||_}
 use mathlib.Core.List.{List}
 use Prim.Native.Nat.{ℕ, _<_, _≤_}
-use native.Mathlib.Decide.{decLe}
-use native.Mathlib.Nat.{lt-of-not-le}
 use native.Mathlib.Omega.{arith}
-use borrow.Author.Tests.{lt-ltb, le-ltb, le-leb, lt-leb}
-use lib.Dec.{ltb, leb}
+use borrow.Author.Tests.{lt-ltb, le-ltb}
+use lib.Dec.{ltb}
 use Rattle.answers.specs.Refusals.{Answer, result, refused, refuseIf}
 use Rattle.answers.specs.declared.refusal.Refusal.{Refusal}
 use Rattle.answers.proofs.Refusals.{result-no-refusal}
@@ -39,11 +37,3 @@ passes-all make place bound later {x = x} e h rest = goes-on (make place) later 
 pub or-false : (a b : Bool) → a || b ≡ false → (a ≡ false) × (b ≡ false)
 or-false true b e = absurd (let z : _≡_ {A = ℕ} 0 1 = cc in omega arith)
 or-false false b e = (refl, e)
-
--- "at least" is "not below"
-pub turned : {A : Type 0} (m w : ℕ) (x y : A) → cond (ltb w m) y x ≡ cond (leb m w) x y
-turned m w x y =
-    elim (decLe m w) [
-      | yes le ↦ rw (le-ltb w m le, le-leb m w le)
-      | no gt ↦ rw (lt-ltb w m (lt-of-not-le gt), lt-leb m w (lt-of-not-le gt))
-    ]

@@ -12,11 +12,11 @@ use lib.ListN.{length, getD}
 use Rattle.field.specs.Congruence.{_≈_}
 use Rattle.limits.specs.Shape.{longest}
 use Rattle.poly.specs.Distinct.{Distinct}
-use Rattle.poly.specs.Every.{Every}
+use Rattle.lists.specs.Every.{Every}
 use Rattle.poly.specs.Sum.{total}
 use Rattle.poly.specs.Value.{value}
 use Rattle.poly.proofs.Counting.{unique-among}
-use Rattle.poly.proofs.Every.{every-map}
+use Rattle.lists.proofs.Every.{every-map}
 use Rattle.poly.proofs.Sieve.{sieve, sieve-true, sieve-distinct, sieve-length}
 use Rattle.poly.proofs.Sum.{total-ext, total-zero}
 use Rattle.poly.proofs.Symbols.{symbols-every}

@@ -20,7 +20,7 @@ use Rattle.block.specs.Checks.{decodeChecks}
 use Rattle.code.specs.Held.{held}
 use Rattle.code.specs.Positions.{firstOutside}
 use Rattle.code.specs.Repeats.{firstRepeat}
-use Rattle.code.specs.Rooms.{decodeRoom}
+use Rattle.code.specs.Rooms.{decodeWork}
 
 -- an answer with another number than DISAGREE's, or with nothing as its result
 pub data Before : Answer → Type 0 where
@@ -36,7 +36,7 @@ unfolding decodeChecks
 checks-before k n positions values out work =
     before-if (badShape k n) Shape refl
     (before-if (not (eqb (length positions) (length values))) Length refl
-    (before-if (ltb out k || ltb work (decodeRoom n)) Room refl
+    (before-if (ltb out k || ltb work (decodeWork n)) Room refl
     (before-if (ltb (length (held positions values .positions)) k) Few refl
     (before-if (ltb (firstOutside n positions) (length positions)) (Position (firstOutside n positions)) refl
     (before-if (ltb (firstRepeat positions) (length positions)) (Repeat (firstRepeat positions)) refl

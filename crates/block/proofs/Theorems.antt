@@ -22,10 +22,10 @@ use Rattle.answers.specs.declared.refusal.Refusal.the-variants.{Disagree}
 use Rattle.answers.proofs.Leaves.{leaves-done, outcome-settled}
 use Rattle.limits.proofs.Values.{all-symbols}
 use Rattle.poly.specs.Sum.{total}
-use Rattle.poly.specs.Tab.{tab}
+use Rattle.lists.specs.Tab.{tab}
 use Rattle.poly.specs.Value.{value}
 use Rattle.poly.proofs.Symbols.{tab-symbols}
-use Rattle.poly.proofs.Tab.{tab-length, tab-at}
+use Rattle.lists.proofs.Tab.{tab-length, tab-at}
 use Rattle.code.specs.Altered.{alteredCount}
 use Rattle.block.specs.Calls.{decodeLeaves}
 use Rattle.code.specs.Decoded.{decoded}
@@ -39,7 +39,7 @@ use Rattle.code.specs.Message.{IsMessage}
 use Rattle.code.specs.Positions.{firstOutside}
 use Rattle.code.specs.Decodable.{Decodable}
 use Rattle.code.specs.Repeats.{standsEarlier, firstRepeat}
-use Rattle.code.specs.Rooms.{decodeRoom}
+use Rattle.code.specs.Rooms.{decodeWork}
 use Rattle.block.specs.Theorems.{CodeWordSymbols, NeverAgree, FitsOne, DecodesFitting, DecodesNone, EncodeChecksPass, DecodeChecksPass, Decodes, Disagrees, EncodesWord, EncodeDecode, DisagreeExactly, Demand3, NeverAnother, WorkedNumbers, EncodeSettled, DecodeSettled}
 use Rattle.block.proofs.Agreement as Agreement
 use Rattle.block.proofs.Altering.{none-fits, fits-none, few-altered}
@@ -101,7 +101,7 @@ encodes-word k n message good is out work enough room =
 
 module _ (k n : ℕ) (positions values : List ℕ) (able : Decodable k n (held positions values)) where
   decode-leaves : (found : Option (List ℕ)) → decodeOf k n (held positions values) ≡ found → (out work : List ℕ) → k ≤ length out
-      → decodeRoom n ≤ length work → decodeLeaves k n positions values out work ≡ decoded found n out work
+      → decodeWork n ≤ length work → decodeLeaves k n positions values out work ≡ decoded found n out work
   decode-leaves found is out work enough room =
       sym (leaves-done (decodeChecks k n positions values (length out) (length work)) out work _
       (decode-passes k n positions values (length out) (length work) able enough room))
@@ -191,14 +191,14 @@ greatest : IsMessage 1 (65536 ∷ [])
 unfolding firstAbove first
 greatest = is-message (65536 ∷ []) refl
 
-worked : {sent : List ℕ} → IsMessage 2 sent → (positions values : List ℕ) → decodeChecks 2 4 positions values 2 (decodeRoom 4) ≡ result []
+worked : {sent : List ℕ} → IsMessage 2 sent → (positions values : List ℕ) → decodeChecks 2 4 positions values 2 (decodeWork 4) ≡ result []
     → alteredCount 4 sent (held positions values) + 2 ≤ length positions → Demand3 2 4 sent positions values
 unfolding held
 worked is positions values passes =
-    never-another 2 4 _ positions values (decode-passed 2 4 positions values 2 (decodeRoom 4) passes .0) is
+    never-another 2 4 _ positions values (decode-passed 2 4 positions values 2 (decodeWork 4) passes .0) is
 
 pub worked-numbers : WorkedNumbers
-unfolding decodeChecks badShape longest decodeRoom held firstOutside firstRepeat standsEarlier firstAbove first codeWord tab symbolOf polynomialOf value pointOf power rootOf root roots sizeOf levelOf alteredCount total
+unfolding decodeChecks badShape longest decodeWork held firstOutside firstRepeat standsEarlier firstAbove first codeWord tab symbolOf polynomialOf value pointOf power rootOf root roots sizeOf levelOf alteredCount total
 worked-numbers =
     record {
       p5 = encodes-word 2 3 (1 ∷ 2 ∷ []) refl one-two;

@@ -9,12 +9,12 @@ use Rattle.code.specs.Code.{codeWord}
 use Rattle.code.specs.Decoded.{decoded}
 use Rattle.code.specs.Decoding.{decodeOf}
 use Rattle.code.specs.Held.{held}
-use Rattle.code.specs.Rooms.{encodeRoom}
+use Rattle.code.specs.Rooms.{encodeWork}
 
 abbrev pub encodeLeaves : ℕ → ℕ → List ℕ → List ℕ → List ℕ → Leaves
 encodeLeaves k n message out work =
     unlessRefused (encodeChecks k n message (length out) (length work)) out work
-    (leaving (result []) (written (codeWord n message) out) (zeroed (encodeRoom n) work))
+    (leaving (result []) (written (codeWord n message) out) (zeroed (encodeWork n) work))
 
 abbrev pub decodeLeaves : ℕ → ℕ → List ℕ → List ℕ → List ℕ → List ℕ → Leaves
 decodeLeaves k n positions values out work =

@@ -11,7 +11,7 @@ use Rattle.answers.specs.declared.refusal.Refusal.the-variants.{Shape, Length, 
 use Rattle.code.specs.Held.{held, heldCount}
 use Rattle.code.specs.Positions.{firstOutside}
 use Rattle.code.specs.Repeats.{firstRepeat}
-use Rattle.code.specs.Rooms.{encodeRoom, decodeRoom}
+use Rattle.code.specs.Rooms.{encodeWork, decodeWork}
 
 -- out and work are the lengths of the output and of the working space
 
@@ -19,13 +19,13 @@ unfoldable pub encodeChecks : ℕ → ℕ → List ℕ → ℕ → ℕ → Answe
 encodeChecks k n message out work =
     refuseIf (badShape k n) Shape
     (refuseIf (not (eqb (length message) k)) Length
-    (refuseIf (ltb out n || ltb work (encodeRoom n)) Room (refuseAbove message (result []))))
+    (refuseIf (ltb out n || ltb work (encodeWork n)) Room (refuseAbove message (result []))))
 
 unfoldable pub decodeChecks : ℕ → ℕ → List ℕ → List ℕ → ℕ → ℕ → Answer
 decodeChecks k n positions values out work =
     refuseIf (badShape k n) Shape
     (refuseIf (not (eqb (length positions) (length values))) Length
-    (refuseIf (ltb out k || ltb work (decodeRoom n)) Room
+    (refuseIf (ltb out k || ltb work (decodeWork n)) Room
     (refuseIf (ltb (heldCount (held positions values)) k) Few
     (refuseIf (ltb (firstOutside n positions) (length positions)) (Position (firstOutside n positions))
     (refuseIf (ltb (firstRepeat positions) (length positions)) (Repeat (firstRepeat positions))

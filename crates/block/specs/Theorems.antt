@@ -11,7 +11,7 @@ use Rattle.answers.specs.Refusals.{result, refused}
 use Rattle.limits.specs.Shape.{longest, badShape}
 use Rattle.field.specs.Symbol.{Symbols}
 use Rattle.answers.specs.declared.refusal.Refusal.the-variants.{Disagree}
-use Rattle.poly.specs.Tab.{tab}
+use Rattle.lists.specs.Tab.{tab}
 use Rattle.code.specs.Altered.{alteredCount}
 use Rattle.block.specs.Calls.{encodeLeaves, decodeLeaves}
 use Rattle.block.specs.Checks.{encodeChecks, decodeChecks}
@@ -24,7 +24,7 @@ use Rattle.code.specs.Positions.{Inside}
 use Rattle.code.specs.Codable.{Codable}
 use Rattle.code.specs.Decodable.{Decodable}
 use Rattle.code.specs.Repeats.{Apart}
-use Rattle.code.specs.Rooms.{encodeRoom, decodeRoom}
+use Rattle.code.specs.Rooms.{encodeWork, decodeWork}
 
 -- The code
 
@@ -57,33 +57,33 @@ abbrev pub EncodeChecksPass : Type 0
 EncodeChecksPass =
     (k n : ℕ) (message : List ℕ) (out work : ℕ)
     → (encodeChecks k n message out work ≡ result [])
-    ↔ (Codable n message × (length message ≡ k) × (n ≤ out) × (encodeRoom n ≤ work))
+    ↔ (Codable n message × (length message ≡ k) × (n ≤ out) × (encodeWork n ≤ work))
 
 abbrev pub DecodeChecksPass : Type 0
 DecodeChecksPass =
     (k n : ℕ) (positions values : List ℕ) (out work : ℕ)
     → (decodeChecks k n positions values out work ≡ result [])
-    ↔ (Decodable k n (held positions values) × (k ≤ out) × (decodeRoom n ≤ work))
+    ↔ (Decodable k n (held positions values) × (k ≤ out) × (decodeWork n ≤ work))
 
 -- The calls: what they leave, given room
 
 -- encode leaves this code word
 abbrev pub Encodes : ℕ → ℕ → List ℕ → List ℕ → Type 0
 Encodes k n message word =
-    (out work : List ℕ) → n ≤ length out → encodeRoom n ≤ length work
-    → encodeLeaves k n message out work ≡ leaving (result []) (written word out) (zeroed (encodeRoom n) work)
+    (out work : List ℕ) → n ≤ length out → encodeWork n ≤ length work
+    → encodeLeaves k n message out work ≡ leaving (result []) (written word out) (zeroed (encodeWork n) work)
 
 -- decode leaves this message
 abbrev pub Decodes : ℕ → ℕ → List ℕ → List ℕ → List ℕ → Type 0
 Decodes k n positions values message =
-    (out work : List ℕ) → k ≤ length out → decodeRoom n ≤ length work
-    → decodeLeaves k n positions values out work ≡ leaving (result []) (written message out) (zeroed (decodeRoom n) work)
+    (out work : List ℕ) → k ≤ length out → decodeWork n ≤ length work
+    → decodeLeaves k n positions values out work ≡ leaving (result []) (written message out) (zeroed (decodeWork n) work)
 
 -- decode answers DISAGREE
 abbrev pub Disagrees : ℕ → ℕ → List ℕ → List ℕ → Type 0
 Disagrees k n positions values =
-    (out work : List ℕ) → k ≤ length out → decodeRoom n ≤ length work
-    → decodeLeaves k n positions values out work ≡ leaving (refused (Disagree 0)) out (zeroed (decodeRoom n) work)
+    (out work : List ℕ) → k ≤ length out → decodeWork n ≤ length work
+    → decodeLeaves k n positions values out work ≡ leaving (refused (Disagree 0)) out (zeroed (decodeWork n) work)
 
 -- demand 2: every good message is coded
 abbrev pub EncodesWord : Type 0

@@ -1,8 +1,8 @@
 // The entry points: they test their input and refuse by document 01's numbers. Refusals 1 to 7 come before anything lent is written, DISAGREE
 // after the work, with the stated working space cleared.
 use crate::checks;
-use crate::rooms::decode_room;
-use crate::rooms::encode_room;
+use crate::rooms::decode_work;
+use crate::rooms::encode_work;
 use answers::Outcome;
 use code::spread;
 use decode_block::recover;
@@ -18,7 +18,7 @@ pub fn encode(k: usize, n: usize, message: &[u32], out: &mut [u32], work: &mut [
 {
     match checks::encode_checks(k, n, message, out.len(), work.len()) {
         Outcome::Done => {
-            let stated = encode_room(n);
+            let stated = encode_work(n);
             spread(n, message, out, &mut work[0..stated]);
             Outcome::Done
         }
@@ -40,7 +40,7 @@ pub fn decode(
 {
     match checks::decode_checks(k, n, positions, values, out.len(), work.len()) {
         Outcome::Done => {
-            let stated = decode_room(n);
+            let stated = decode_work(n);
             recover(k, n, positions, values, out, &mut work[0..stated])
         }
         Outcome::Refused(refusal) => Outcome::Refused(refusal),

@@ -1,6 +1,6 @@
 // The checks of encode and decode, in document 01's order. They write nothing.
-use crate::rooms::decode_room;
-use crate::rooms::encode_room;
+use crate::rooms::decode_work;
+use crate::rooms::encode_work;
 use answers::Outcome;
 use answers::Refusal;
 use code_positions::first_outside;
@@ -22,7 +22,7 @@ pub fn encode_checks(k: usize, n: usize, message: &[u32], out: usize, work: usiz
     if message.len() != k {
         return Outcome::Refused(Refusal::Length);
     }
-    if too_short(out, n, work, encode_room(n)) {
+    if too_short(out, n, work, encode_work(n)) {
         return Outcome::Refused(Refusal::Room);
     }
     let above = first_above(message);
@@ -48,7 +48,7 @@ pub fn decode_checks(
     if positions.len() != values.len() {
         return Outcome::Refused(Refusal::Length);
     }
-    if too_short(out, k, work, decode_room(n)) {
+    if too_short(out, k, work, decode_work(n)) {
         return Outcome::Refused(Refusal::Room);
     }
     if positions.len() < k {

@@ -17,12 +17,12 @@ use Rattle.field.specs.Roots.{roots, root}
 use Rattle.limits.specs.Shape.{longest, badShape}
 use Rattle.field.specs.Size.{levelOf, sizeOf}
 use Rattle.answers.proofs.Refusals.{result-no-refusal}
-use Rattle.poly.specs.Tab.{tab}
+use Rattle.lists.specs.Tab.{tab}
 use Rattle.poly.specs.Value.{value}
 use Rattle.code.specs.Code.{symbolOf, codeWord}
 use Rattle.code.specs.Meeting.{polynomialOf}
 use Rattle.code.specs.Message.{IsMessage}
-use Rattle.code.specs.Rooms.{encodeRoom, decodeRoom}
+use Rattle.code.specs.Rooms.{encodeWork, decodeWork}
 use Rattle.block.specs.Theorems.{Encodes, Decodes}
 use Rattle.block.proofs.Theorems.{encodes-word, encode-decode}
 use Rattle.bundle_storage.specs.Blocks.{mostBlocks}
@@ -39,7 +39,7 @@ use Rattle.bundle_storage.proofs.BytesLaws.{two-alike, four-alike, alike-front}
 use Rattle.bundle_layout.proofs.Holding.{all-length}
 use Rattle.bundle_layout.proofs.Passing.{entry-there}
 use Rattle.bundle_file.specs.File.{padded, messageAt, symbolAt, countAt, shadowOf, bundleAt, fileBundle}
-use Rattle.bundle_layout.specs.Rooms.{writeRoom, workRoom}
+use Rattle.bundle_layout.specs.Rooms.{writeOut, bundleWork}
 use Rattle.bundle.specs.Useless.{Coder, KeepsEncode, KeepsDecode, KeepsWrite, KeepsRead, Refused, AnswersSome, NotConstant, WritesSomething, CodesLaterBlocks, InventsNothing, Useless}
 use Rattle.bundle_front.proofs.Bundling.{file-is-bundle, held-all, all-rise, bundle-count}
 use Rattle.bundle.proofs.Demands.{writes-bundle, write-read}
@@ -127,24 +127,24 @@ last-byte (suc zero) h rest = refl
 last-byte (suc (suc x)) h rest = absurd (omega arith)
 
 module _ (c : Coder) (x : ℕ) (h : x < 2) where
-  encoded : KeepsEncode c → Told (c .encode 1 1 (x ∷ []) (0 ∷ []) (zeros (encodeRoom 1))) 0 x
-  encoded keeps = told 0 x [] (x ∷ []) _ (keeps 1 1 _ _ _ ∙ encodes x h (0 ∷ []) (zeros (encodeRoom 1)) (lit≤ tt) (room (encodeRoom 1))) refl
+  encoded : KeepsEncode c → Told (c .encode 1 1 (x ∷ []) (0 ∷ []) (zeros (encodeWork 1))) 0 x
+  encoded keeps = told 0 x [] (x ∷ []) _ (keeps 1 1 _ _ _ ∙ encodes x h (0 ∷ []) (zeros (encodeWork 1)) (lit≤ tt) (room (encodeWork 1))) refl
 
-  decoded : KeepsDecode c → Told (c .decode 1 1 (0 ∷ []) (x ∷ []) (0 ∷ []) (zeros (decodeRoom 1))) 0 x
-  decoded keeps = told 0 x [] (x ∷ []) _ (keeps 1 1 _ _ _ _ ∙ decodes x h (0 ∷ []) (zeros (decodeRoom 1)) (lit≤ tt) (room (decodeRoom 1))) refl
+  decoded : KeepsDecode c → Told (c .decode 1 1 (0 ∷ []) (x ∷ []) (0 ∷ []) (zeros (decodeWork 1))) 0 x
+  decoded keeps = told 0 x [] (x ∷ []) _ (keeps 1 1 _ _ _ _ ∙ decodes x h (0 ∷ []) (zeros (decodeWork 1)) (lit≤ tt) (room (decodeWork 1))) refl
 
-  wrote : KeepsWrite c → Told (c .write 1 1 (file x) (zeros (writeRoom 1 2)) (zeros (workRoom 1))) 27 x
+  wrote : KeepsWrite c → Told (c .write 1 1 (file x) (zeros (writeOut 1 2)) (zeros (bundleWork 1))) 27 x
   unfolding file blocksOf
   wrote keeps =
       told 27 x _ _ _
-      (keeps 1 1 _ _ _ ∙ writes-bundle 1 1 (file x) (file-shape x) (zeros (writeRoom 1 2)) (zeros (workRoom 1)) (room (writeRoom 1 2)) (room (workRoom 1)))
+      (keeps 1 1 _ _ _ ∙ writes-bundle 1 1 (file x) (file-shape x) (zeros (writeOut 1 2)) (zeros (bundleWork 1)) (room (writeOut 1 2)) (room (bundleWork 1)))
       (last-byte x h _)
 
-  read : KeepsRead c → Told (c .read (fileBundle 1 1 (file x)) (zeros 4) (zeros (workRoom 1))) 3 x
+  read : KeepsRead c → Told (c .read (fileBundle 1 1 (file x)) (zeros 4) (zeros (bundleWork 1))) 3 x
   unfolding file
   read keeps =
       told 3 x _ _ _
-      (keeps _ _ _ ∙ write-read 1 1 (file x) (file-shape x) (file-bytes x h) (zeros 4) (zeros (workRoom 1)) (lit≤ tt) (room (workRoom 1)))
+      (keeps _ _ _ ∙ write-read 1 1 (file x) (file-shape x) (file-bytes x h) (zeros 4) (zeros (bundleWork 1)) (lit≤ tt) (room (bundleWork 1)))
       refl
 
 -- The counts in the table of what is written
@@ -211,7 +211,7 @@ module _ (c : Coder) where
         decode = λ keeps all. let one-in = decoded c 1 (lit< tt) keeps in writes (0 ∷ []) refl one-in (all 1 1 _ _ _ _ (answers one-in));
         write =
             λ keeps all. let one-in = wrote c 1 (lit< tt) keeps in
-            writes (zeros (writeRoom 1 2)) (zeros-behind [] (writeRoom 1 2) 27) one-in (all 1 1 (file 1) _ _ (file-bytes 1 (lit< tt)) (answers one-in));
+            writes (zeros (writeOut 1 2)) (zeros-behind [] (writeOut 1 2) 27) one-in (all 1 1 (file 1) _ _ (file-bytes 1 (lit< tt)) (answers one-in));
         read =
             λ keeps all. let one-in = read c 1 (lit< tt) keeps in
             writes (zeros 4) refl one-in (all (fileBundle 1 1 (file 1)) _ _ (file-bundle-bytes 1) (answers one-in));

@@ -16,22 +16,22 @@ use Rattle.bundle_layout.specs.Shape.{badBundleShape}
 use Rattle.bundle_layout.specs.Fields.{kIn, nIn, lengthIn, heldIn}
 use Rattle.bundle_layout.specs.Layout.{badFront, restGood, layoutChecks}
 use Rattle.bundle.specs.Checks.{writeChecks, roomChecks, readChecks}
-use Rattle.bundle_layout.specs.Rooms.{writeRoom, workRoom}
+use Rattle.bundle_layout.specs.Rooms.{writeOut, bundleWork}
 
-pub write-passes : (k n L out work : ℕ) → badBundleShape k n L ≡ false → writeRoom n (blocksOf k L) ≤ out → workRoom n ≤ work
+pub write-passes : (k n L out work : ℕ) → badBundleShape k n L ≡ false → writeOut n (blocksOf k L) ≤ out → bundleWork n ≤ work
     → writeChecks k n L out work ≡ result []
 unfolding writeChecks
 write-passes k n L out work good enough room =
-    simp (good, le-ltb out (writeRoom n (blocksOf k L)) enough, le-ltb work (workRoom n) room)
+    simp (good, le-ltb out (writeOut n (blocksOf k L)) enough, le-ltb work (bundleWork n) room)
 
 pub write-passed : (k n L out work : ℕ) → writeChecks k n L out work ≡ result []
-    → (badBundleShape k n L ≡ false) × (writeRoom n (blocksOf k L) ≤ out) × (workRoom n ≤ work)
+    → (badBundleShape k n L ≡ false) × (writeOut n (blocksOf k L) ≤ out) × (bundleWork n ≤ work)
 unfolding writeChecks
 write-passed k n L out work e =
     let shape = passed (badBundleShape k n L) Shape _ [] e in
-    let room = passed (ltb out (writeRoom n (blocksOf k L)) || ltb work (workRoom n)) Room (result []) [] (shape .1) in
-    let enough = or-false (ltb out (writeRoom n (blocksOf k L))) (ltb work (workRoom n)) (room .0) in
-    (shape .0, ltb-false out (writeRoom n (blocksOf k L)) (enough .0), ltb-false work (workRoom n) (enough .1))
+    let room = passed (ltb out (writeOut n (blocksOf k L)) || ltb work (bundleWork n)) Room (result []) [] (shape .1) in
+    let enough = or-false (ltb out (writeOut n (blocksOf k L))) (ltb work (bundleWork n)) (room .0) in
+    (shape .0, ltb-false out (writeOut n (blocksOf k L)) (enough .0), ltb-false work (bundleWork n) (enough .1))
 
 -- Answers that are a result of nothing, or another refusal than DISAGREE
 
@@ -67,24 +67,24 @@ module _ (s : List ℕ) (out work : ℕ) where
   room-before : Before (roomChecks s out work)
   unfolding roomChecks
   room-before =
-      before-if (ltb out (lengthIn s) || ltb work (workRoom (nIn s))) Room refl (before-if (ltb (heldIn s) (kIn s)) Few refl passing)
+      before-if (ltb out (lengthIn s) || ltb work (bundleWork (nIn s))) Room refl (before-if (ltb (heldIn s) (kIn s)) Few refl passing)
 
   pub read-before : Before (readChecks s out work)
   unfolding readChecks
   read-before = after-before (layout-before s) (roomChecks s out work) room-before
 
-  pub read-passes : layoutChecks s ≡ result [] → lengthIn s ≤ out → workRoom (nIn s) ≤ work → kIn s ≤ heldIn s
+  pub read-passes : layoutChecks s ≡ result [] → lengthIn s ≤ out → bundleWork (nIn s) ≤ work → kIn s ≤ heldIn s
       → readChecks s out work ≡ result []
   unfolding readChecks roomChecks
   read-passes good enough room many =
-      simp (good, le-ltb out (lengthIn s) enough, le-ltb work (workRoom (nIn s)) room, le-ltb (heldIn s) (kIn s) many)
+      simp (good, le-ltb out (lengthIn s) enough, le-ltb work (bundleWork (nIn s)) room, le-ltb (heldIn s) (kIn s) many)
 
   pub read-passed : readChecks s out work ≡ result []
-      → (layoutChecks s ≡ result []) × (lengthIn s ≤ out) × (workRoom (nIn s) ≤ work) × (kIn s ≤ heldIn s)
+      → (layoutChecks s ≡ result []) × (lengthIn s ≤ out) × (bundleWork (nIn s) ≤ work) × (kIn s ≤ heldIn s)
   unfolding readChecks roomChecks
   read-passed e =
       let good = after-passed (layout-before s) (roomChecks s out work) e in
-      let room = passed (ltb out (lengthIn s) || ltb work (workRoom (nIn s))) Room _ [] (good .1) in
+      let room = passed (ltb out (lengthIn s) || ltb work (bundleWork (nIn s))) Room _ [] (good .1) in
       let few = passed (ltb (heldIn s) (kIn s)) Few (result []) [] (room .1) in
-      let enough = or-false (ltb out (lengthIn s)) (ltb work (workRoom (nIn s))) (room .0) in
-      (good .0, ltb-false out (lengthIn s) (enough .0), ltb-false work (workRoom (nIn s)) (enough .1), ltb-false (heldIn s) (kIn s) (few .0))
+      let enough = or-false (ltb out (lengthIn s)) (ltb work (bundleWork (nIn s))) (room .0) in
+      (good .0, ltb-false out (lengthIn s) (enough .0), ltb-false work (bundleWork (nIn s)) (enough .1), ltb-false (heldIn s) (kIn s) (few .0))

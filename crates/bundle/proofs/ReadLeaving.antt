@@ -16,7 +16,7 @@ use Rattle.answers.proofs.Leaves.{zeroed-all, zeroed-again}
 use Rattle.bundle_layout.specs.Fields.{nIn, lengthIn, blocksIn}
 use Rattle.bundle.specs.Calls.{blocksLeave}
 use Rattle.bundle_read.specs.Reading.{blocksAnswer, bytesBefore, fileIn}
-use Rattle.bundle_layout.specs.Rooms.{workRoom}
+use Rattle.bundle_layout.specs.Rooms.{bundleWork}
 
 -- all there is is written
 written-all : (vs list : List ℕ) → length list ≤ length vs → written vs list ≡ vs
@@ -29,15 +29,15 @@ file-short s =
 
 -- The work: file and cells are what was lent of the output and of the working space, f and c what they hold at the end
 
-module _ (s file cells f c : List ℕ) (long : length file ≡ lengthIn s) (room : length cells ≡ workRoom (nIn s)) (m : ℕ) (same : m ≡ length cells) (cleared : c ≡ replicate m 0) (o : Outcome) (told : after (toldOutcome o) (result (lengthIn s ∷ [])) ≡ blocksAnswer s 0 (blocksIn s)) where
-  zero : c ≡ zeroed (workRoom (nIn s)) cells
-  zero = cleared ∙ ap (λ (z : ℕ). replicate z 0) (same ∙ room) ∙ sym (zeroed-all (workRoom (nIn s)) cells room)
+module _ (s file cells f c : List ℕ) (long : length file ≡ lengthIn s) (room : length cells ≡ bundleWork (nIn s)) (m : ℕ) (same : m ≡ length cells) (cleared : c ≡ replicate m 0) (o : Outcome) (told : after (toldOutcome o) (result (lengthIn s ∷ [])) ≡ blocksAnswer s 0 (blocksIn s)) where
+  zero : c ≡ zeroed (bundleWork (nIn s)) cells
+  zero = cleared ∙ ap (λ (z : ℕ). replicate z 0) (same ∙ room) ∙ sym (zeroed-all (bundleWork (nIn s)) cells room)
 
   pub leaves-file : o ≡ Done → (L : ℕ) → L ≡ lengthIn s → length f ≡ length file → (toldOutcome o ≡ result [] → f ≡ take (length file) (fileIn s))
       → leaving (result (L ∷ [])) f c ≡ blocksLeave (blocksAnswer s 0 (blocksIn s)) s file cells
   leaves-file done L is kept file-is =
       ap₂ (leaving (result (L ∷ []))) (whole ∙ ap (λ (t : List ℕ). written t file) (file-is (ap toldOutcome done) ∙ take-all (length file) (fileIn s) (omega (arith, long, file-short s)))) zero
-      ∙ ap (λ (z : ℕ). leaving (result (z ∷ [])) (written (fileIn s) file) (zeroed (workRoom (nIn s)) cells)) is
+      ∙ ap (λ (z : ℕ). leaving (result (z ∷ [])) (written (fileIn s) file) (zeroed (bundleWork (nIn s)) cells)) is
       ∙ ap (λ (a : Answer). blocksLeave a s file cells) (ap (λ (p : Outcome). after (toldOutcome p) (result (lengthIn s ∷ []))) (sym done) ∙ told)
     where
       whole : f ≡ written f file
@@ -64,17 +64,17 @@ again-written vs out L stated is enough fits =
 extended : List ℕ → List ℕ → Leaves → Leaves
 extended rest behind it = leaving (it .answer) (it .list ++ rest) (it .work ++ behind)
 
-pub blocks-whole : (s : List ℕ) (answer a : Answer) (L room : ℕ) (out work f c : List ℕ) → L ≡ lengthIn s → room ≡ workRoom (nIn s)
-    → lengthIn s ≤ length out → workRoom (nIn s) ≤ length work → leaving a f c ≡ blocksLeave answer s (take (L - 0) out) (take (room - 0) work)
+pub blocks-whole : (s : List ℕ) (answer a : Answer) (L room : ℕ) (out work f c : List ℕ) → L ≡ lengthIn s → room ≡ bundleWork (nIn s)
+    → lengthIn s ≤ length out → bundleWork (nIn s) ≤ length work → leaving a f c ≡ blocksLeave answer s (take (L - 0) out) (take (room - 0) work)
     → leaving a (f ++ drop (L - 0) out) (c ++ drop (room - 0) work) ≡ blocksLeave answer s out work
 unfolding extended
 blocks-whole s (refusal number place) a L room out work f c first second enough space leaves =
     ap (extended (drop (L - 0) out) (drop (room - 0) work)) leaves
     ∙ ap₂ (leaving (refusal number place))
     (again-written (replicate (lengthIn s) 0) out (lengthIn s) L first enough (omega (arith, length-replicate {A = ℕ} (lengthIn s) 0)))
-    (zeroed-again room (workRoom (nIn s)) work second space)
+    (zeroed-again room (bundleWork (nIn s)) work second space)
 blocks-whole s (result vs) a L room out work f c first second enough space leaves =
     ap (extended (drop (L - 0) out) (drop (room - 0) work)) leaves
     ∙ ap₂ (leaving (result vs))
     (again-written (fileIn s) out (lengthIn s) L first enough (file-short s))
-    (zeroed-again room (workRoom (nIn s)) work second space)
+    (zeroed-again room (bundleWork (nIn s)) work second space)

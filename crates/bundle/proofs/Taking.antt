@@ -16,8 +16,8 @@ use Rattle.answers.specs.Leaves.{leaving, written, zeroed}
 use Rattle.answers.specs.Refusals.{result, refused}
 use Rattle.answers.specs.declared.refusal.Refusal.the-variants.{Disagree}
 use Rattle.answers.proofs.First.{first-before, first-holds}
-use Rattle.poly.specs.Tab.{tab}
-use Rattle.poly.proofs.Tab.{tab-append}
+use Rattle.lists.specs.Tab.{tab}
+use Rattle.lists.proofs.Tab.{tab-append}
 use Rattle.code.specs.Altered.{alteredCount}
 use Rattle.code.specs.Fits.{Fits}
 use Rattle.block.proofs.Altering.{none-fits, fits-none, few-altered}
@@ -30,7 +30,7 @@ use Rattle.bundle_storage.proofs.BytesLaws.{in-bytes-append}
 use Rattle.bundle_layout.proofs.Passing.{k-some}
 use Rattle.bundle_file.specs.File.{padded, messageAt}
 use Rattle.bundle_read.specs.Reading.{heldAt, decodedAt, blockAnswer, bytesOf, bytesBefore, fileIn}
-use Rattle.bundle_layout.specs.Rooms.{workRoom}
+use Rattle.bundle_layout.specs.Rooms.{bundleWork}
 use Rattle.bundle.specs.Theorems.{Reads, Refuses, Demand3}
 use Rattle.bundle_file.proofs.Padding.{padded-words, message-is}
 use Rattle.bundle.proofs.Tails.{word-good, tail-good}
@@ -96,7 +96,7 @@ module _ (file s : List ℕ) (bytes : Bytes file) (of-bytes : Bytes s) (good : l
       read-leaves s out work (result (lengthIn s ∷ []))
       (read-passes s (length out) (length work) good (omega arith) room enough)
       (all-taken s (blocksIn s) 0 (λ c h l. taken c (each c (omega arith))))
-      ∙ ap₂ (λ (L : ℕ) (f : List ℕ). leaving (result (L ∷ [])) (written f out) (zeroed (workRoom (nIn s)) work)) long (file-back each)
+      ∙ ap₂ (λ (L : ℕ) (f : List ℕ). leaving (result (L ∷ [])) (written f out) (zeroed (bundleWork (nIn s)) work)) long (file-back each)
 
   refuses : (b : ℕ) → b < blocksIn s → ((c : ℕ) → c < b → altered c ≡ 0) → altered b + kIn s ≤ heldIn s → 0 < altered b
       → Refuses (nIn s) (length file) s (Disagree b)
@@ -104,7 +104,7 @@ module _ (file s : List ℕ) (bytes : Bytes file) (of-bytes : Bytes s) (good : l
       read-leaves s out work (refused (Disagree b))
       (read-passes s (length out) (length work) good (omega arith) room enough)
       (first-refused s 8 b (blocksIn s) 0 b zero-le (omega arith) (λ c h l. taken c (before c l)) (disagrees b few any))
-      ∙ ap (λ (L : ℕ). leaving (refused (Disagree b)) (written (replicate L 0) out) (zeroed (workRoom (nIn s)) work)) long
+      ∙ ap (λ (L : ℕ). leaving (refused (Disagree b)) (written (replicate L 0) out) (zeroed (bundleWork (nIn s)) work)) long
 
   pub demand : ((b : ℕ) → b < blocksIn s → altered b + kIn s ≤ heldIn s) → Demand3 (kIn s) (nIn s) file s
   demand few = record { never-another = go; none-altered = reads; some-altered = λ b h before any. refuses b h before (few b h) any }

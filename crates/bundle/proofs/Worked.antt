@@ -17,7 +17,7 @@ use Rattle.limits.specs.Shape.{longest, badShape}
 use Rattle.field.specs.Size.{levelOf, sizeOf}
 use Rattle.answers.specs.declared.refusal.Refusal.the-variants.{Tail, Form}
 use Rattle.poly.specs.Sum.{total}
-use Rattle.poly.specs.Tab.{tab}
+use Rattle.lists.specs.Tab.{tab}
 use Rattle.poly.specs.Value.{value}
 use Rattle.transform_halving.proofs.Theorems as Transform
 use Rattle.code.specs.Altered.{alteredCount}

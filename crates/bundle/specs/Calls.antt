@@ -8,19 +8,19 @@ use Rattle.bundle_layout.specs.Fields.{nIn, lengthIn, blocksIn}
 use Rattle.bundle.specs.Checks.{writeChecks, readChecks}
 use Rattle.bundle_file.specs.File.{fileBundle}
 use Rattle.bundle_read.specs.Reading.{blocksAnswer, fileIn}
-use Rattle.bundle_layout.specs.Rooms.{workRoom}
+use Rattle.bundle_layout.specs.Rooms.{bundleWork}
 
 abbrev pub writeLeaves : ℕ → ℕ → List ℕ → List ℕ → List ℕ → Leaves
 writeLeaves k n file out work =
     unlessRefused (writeChecks k n (length file) (length out) (length work)) out work
-    (leaving (result (length (fileBundle k n file) ∷ [])) (written (fileBundle k n file) out) (zeroed (workRoom n) work))
+    (leaving (result (length (fileBundle k n file) ∷ [])) (written (fileBundle k n file) out) (zeroed (bundleWork n) work))
 
 -- the file where every block is taken; "On refusals 8 to 10 the stated working space is zero; .. a bundle reader's first L output bytes are
 -- zero and later ones untouched."
 abbrev pub blocksLeave : Answer → List ℕ → List ℕ → List ℕ → Leaves
 blocksLeave (refusal number place) s out work =
-    leaving (refusal number place) (written (replicate (lengthIn s) 0) out) (zeroed (workRoom (nIn s)) work)
-blocksLeave (result vs) s out work = leaving (result vs) (written (fileIn s) out) (zeroed (workRoom (nIn s)) work)
+    leaving (refusal number place) (written (replicate (lengthIn s) 0) out) (zeroed (bundleWork (nIn s)) work)
+blocksLeave (result vs) s out work = leaving (result vs) (written (fileIn s) out) (zeroed (bundleWork (nIn s)) work)
 
 -- what reading all blocks leaves
 abbrev pub readAllLeaves : List ℕ → List ℕ → List ℕ → Leaves

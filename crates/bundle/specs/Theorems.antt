@@ -22,27 +22,27 @@ use Rattle.bundle.specs.Calls.{writeLeaves, readLeaves}
 use Rattle.bundle.specs.Checks.{readChecks}
 use Rattle.bundle_file.specs.File.{Rising, messageAt, shadowOf, bundleAt, fileBundle}
 use Rattle.bundle_read.specs.Reading.{heldAt, blockAnswer}
-use Rattle.bundle_layout.specs.Rooms.{writeRoom, workRoom}
+use Rattle.bundle_layout.specs.Rooms.{writeOut, bundleWork}
 
 -- The calls: what they leave, given room
 
 -- the writer leaves this bundle
 abbrev pub Writes : ℕ → ℕ → List ℕ → List ℕ → Type 0
 Writes k n file bundle =
-    (out work : List ℕ) → writeRoom n (blocksOf k (length file)) ≤ length out → workRoom n ≤ length work
-    → writeLeaves k n file out work ≡ leaving (result (length bundle ∷ [])) (written bundle out) (zeroed (workRoom n) work)
+    (out work : List ℕ) → writeOut n (blocksOf k (length file)) ≤ length out → bundleWork n ≤ length work
+    → writeLeaves k n file out work ≡ leaving (result (length bundle ∷ [])) (written bundle out) (zeroed (bundleWork n) work)
 
 -- the reader leaves this file
 abbrev pub Reads : ℕ → List ℕ → List ℕ → Type 0
 Reads n s file =
-    (out work : List ℕ) → length file ≤ length out → workRoom n ≤ length work
-    → readLeaves s out work ≡ leaving (result (length file ∷ [])) (written file out) (zeroed (workRoom n) work)
+    (out work : List ℕ) → length file ≤ length out → bundleWork n ≤ length work
+    → readLeaves s out work ≡ leaving (result (length file ∷ [])) (written file out) (zeroed (bundleWork n) work)
 
 -- the reader refuses a block, L being the file's length
 abbrev pub Refuses : ℕ → ℕ → List ℕ → Refusal → Type 0
 Refuses n L s x =
-    (out work : List ℕ) → L ≤ length out → workRoom n ≤ length work
-    → readLeaves s out work ≡ leaving (refused x) (written (replicate L 0) out) (zeroed (workRoom n) work)
+    (out work : List ℕ) → L ≤ length out → bundleWork n ≤ length work
+    → readLeaves s out work ≡ leaving (refused x) (written (replicate L 0) out) (zeroed (bundleWork n) work)
 
 -- Demand 2
 
@@ -106,7 +106,7 @@ abbrev pub TakenIsSent : Type 0
 TakenIsSent =
     (k n : ℕ) (file s out work vs : List ℕ) → Bytes file → Bytes s → (layoutChecks s ≡ result [] → FewAltered k n file s)
     → readLeaves s out work .answer ≡ result vs
-    → readLeaves s out work ≡ leaving (result (length file ∷ [])) (written file out) (zeroed (workRoom n) work)
+    → readLeaves s out work ≡ leaving (result (length file ∷ [])) (written file out) (zeroed (bundleWork n) work)
 
 -- Two outcomes of a call are equal: the answer, every byte of the output and every cell of the working space
 

@@ -14,7 +14,7 @@ use Rattle.bundle_storage.specs.Bytes.{Bytes}
 use Rattle.bundle_layout.specs.Fields.{lengthIn, countIn}
 use Rattle.bundle.specs.Calls.{writeLeaves, readLeaves}
 use Rattle.bundle_file.specs.File.{messageAt, countAt, fileBundle}
-use Rattle.bundle_layout.specs.Rooms.{writeRoom, workRoom}
+use Rattle.bundle_layout.specs.Rooms.{writeOut, bundleWork}
 
 pub record Coder : Type 0 where
   pub encode : ℕ → ℕ → List ℕ → List ℕ → List ℕ → Leaves
@@ -88,7 +88,7 @@ CodesLaterBlocks c =
 abbrev pub InventsNothing : Coder → Type 0
 InventsNothing c =
     KeepsWrite c → (k n : ℕ) (file out work : List ℕ) → badBundleShape k n (length file) ≡ false
-    → writeRoom n (blocksOf k (length file)) ≤ length out → workRoom n ≤ length work
+    → writeOut n (blocksOf k (length file)) ≤ length out → bundleWork n ≤ length work
     → (c .write k n file out work .answer ≡ result (length (fileBundle k n file) ∷ []))
     × ((i : ℕ) → i < n → countIn (c .write k n file out work .list) i ≡ countAt k n file i)
     × (lengthIn (c .write k n file out work .list) ≡ length file)

@@ -3,7 +3,7 @@
 use crate::answer::LengthAnswer;
 use crate::checks::read_checks;
 use crate::checks::write_checks;
-use crate::rooms::work_room;
+use crate::rooms::bundle_work;
 use crate::whole::read_all;
 use answers::Outcome;
 use bundle_layout::inner::length_in;
@@ -21,7 +21,7 @@ pub fn write(k: usize, n: usize, file: &[u8], out: &mut [u8], work: &mut [u32]) 
 {
     match write_checks(k, n, file.len(), out.len(), work.len()) {
         Outcome::Done => {
-            let stated = work_room(n);
+            let stated = bundle_work(n);
             LengthAnswer::Length(write_all(k, n, file, out, &mut work[0..stated]))
         }
         Outcome::Refused(refusal) => LengthAnswer::Refused(refusal),
@@ -36,7 +36,7 @@ pub fn read(bundle: &[u8], out: &mut [u8], work: &mut [u32]) -> LengthAnswer
     match read_checks(bundle, out.len(), work.len()) {
         Outcome::Done => {
             let length = length_in(bundle);
-            let stated = work_room(n_in(bundle));
+            let stated = bundle_work(n_in(bundle));
             read_all(bundle, &mut out[0..length], &mut work[0..stated])
         }
         Outcome::Refused(refusal) => LengthAnswer::Refused(refusal),

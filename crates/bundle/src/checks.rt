@@ -1,7 +1,7 @@
 // The checks of the writer, and those of the reader before the blocks, in document 01's order. They write nothing. No entry points and for this
 // crate alone.
-use crate::rooms::work_room;
-use crate::rooms::write_room;
+use crate::rooms::bundle_work;
+use crate::rooms::write_out;
 use answers::Outcome;
 use answers::Refusal;
 use bundle_layout::inner::bad_bundle_shape;
@@ -25,7 +25,7 @@ pub fn write_checks(k: usize, n: usize, length: usize, out: usize, work: usize) 
     if bad_bundle_shape(k, n, length) {
         return Outcome::Refused(Refusal::Shape);
     }
-    if too_short(out, write_room(n, blocks(k, length)), work, work_room(n)) {
+    if too_short(out, write_out(n, blocks(k, length)), work, bundle_work(n)) {
         return Outcome::Refused(Refusal::Room);
     }
     Outcome::Done
@@ -36,7 +36,7 @@ fn room_checks(bundle: &[u8], out: usize, work: usize) -> Outcome
     requires { ⌜ layoutChecks (now bundle) ≡ result [] ⌝ }
     ensures { λ r. ⌜ toldOutcome r ≡ roomChecks (now (bundle .entry)) out work ⌝ }
 {
-    if too_short(out, length_in(bundle), work, work_room(n_in(bundle))) {
+    if too_short(out, length_in(bundle), work, bundle_work(n_in(bundle))) {
         return Outcome::Refused(Refusal::Room);
     }
     if held_in(bundle) < k_in(bundle) {

@@ -4,18 +4,18 @@ ghost use mathlib.Core.Path.{_≡_};
 ghost use Prim.Native.Nat.{_≤_};
 ghost use Rattle.limits.specs.Shape.{longest};
 ghost use Rattle.bundle_storage.specs.Blocks.{mostBlocks};
-ghost use Rattle.bundle_layout.specs.Rooms.{writeRoom, workRoom};
+ghost use Rattle.bundle_layout.specs.Rooms.{writeOut, bundleWork};
 
 // n and B are those of a good shape.
-pub fn write_room(n: usize, blocks: usize) -> usize
+pub fn write_out(n: usize, blocks: usize) -> usize
     requires { ⌜ (n ≤ longest) × (blocks ≤ mostBlocks) ⌝ }
-    ensures { λ r. ⌜ r ≡ writeRoom n blocks ⌝ }
+    ensures { λ r. ⌜ r ≡ writeOut n blocks ⌝ }
 {
     16 + 8 * n + 4 * (n * blocks)
 }
 
-pub fn work_room(n: usize) -> usize
-    ensures { λ r. ⌜ r ≡ workRoom n ⌝ }
+pub fn bundle_work(n: usize) -> usize
+    ensures { λ r. ⌜ r ≡ bundleWork n ⌝ }
 {
     8 * size(n)
 }

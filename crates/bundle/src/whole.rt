@@ -14,14 +14,14 @@ ghost use Rattle.answers.specs.Leaves.{leaving};
 ghost use Rattle.answers.specs.Refusals.{result};
 ghost use Rattle.bundle_layout.specs.Fields.{kIn, nIn, lengthIn, heldIn};
 ghost use Rattle.bundle_layout.specs.Layout.{layoutChecks};
-ghost use Rattle.bundle_layout.specs.Rooms.{workRoom};
+ghost use Rattle.bundle_layout.specs.Rooms.{bundleWork};
 ghost use Rattle.bundle.specs.Answers.{toldLength};
 ghost use Rattle.bundle.specs.Calls.{readAllLeaves};
 
 // The file, or the refusal of a block with the file's bytes zero; cells is the stated working space.
 pub fn read_all(bundle: &[u8], file: &mut [u8], cells: &mut [u32]) -> LengthAnswer
     requires { ⌜ (layoutChecks (now bundle) ≡ result []) × (kIn (now bundle) ≤ heldIn (now bundle))
-        × (length (now file) ≡ lengthIn (now bundle)) × (length (now cells) ≡ workRoom (nIn (now bundle))) ⌝ }
+        × (length (now file) ≡ lengthIn (now bundle)) × (length (now cells) ≡ bundleWork (nIn (now bundle))) ⌝ }
     ensures { λ r. ⌜ leaving (toldLength r) (now (file .exit)) (now (cells .exit))
         ≡ readAllLeaves (now (bundle .entry)) (now (file .entry)) (now (cells .entry)) ⌝ }
 {

@@ -12,7 +12,7 @@ use lib.ListN.{length, getD, take, drop, replicate, length-append, length-drop, 
 use lib.Seq.{length-take-le, getD-take, getD-drop, getD-append-add}
 use Rattle.field.specs.Size.{sizeOf}
 use Rattle.field.proofs.Sizes.{size-enough}
-use Rattle.poly.proofs.Tab.{tab-at}
+use Rattle.lists.proofs.Tab.{tab-at}
 use Rattle.code.specs.Code.{codeWord}
 use Rattle.bundle_layout.specs.Shape.{badBundleShape}
 use Rattle.bundle_storage.specs.Storage.{overflows, countOf}

@@ -10,8 +10,8 @@ use lib.ListN.{length, take, drop, replicate}
 use lib.Seq.{length-take-le}
 use Rattle.limits.specs.Shape.{badShape}
 use Rattle.field.specs.Size.{sizeOf}
-use Rattle.poly.specs.Tab.{tab}
-use Rattle.poly.proofs.Tab.{tab-ext}
+use Rattle.lists.specs.Tab.{tab}
+use Rattle.lists.proofs.Tab.{tab-ext}
 use Rattle.transform_halving.specs.Transformable.{Transformable}
 use Rattle.transform_halving.specs.Transform.{transformOf}
 use Rattle.code.specs.Codable.{Codable}

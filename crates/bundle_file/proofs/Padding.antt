@@ -7,9 +7,9 @@ use native.Mathlib.Nat.{zero-add}
 use native.Mathlib.Omega.{arith}
 use lib.ListN.{length, getD, replicate, length-append, length-replicate}
 use lib.Seq.{ext-getD}
-use Rattle.poly.specs.Tab.{tab}
+use Rattle.lists.specs.Tab.{tab}
 use Rattle.poly.proofs.Symbols.{tab-symbols}
-use Rattle.poly.proofs.Tab.{tab-length, tab-at}
+use Rattle.lists.proofs.Tab.{tab-length, tab-at}
 use Rattle.code.specs.Message.{IsMessage}
 use Rattle.bundle_layout.specs.Blocks.{blocksOf}
 use Rattle.bundle_storage.specs.Bytes.{Bytes, two, inBytes, twoAt}

@@ -4,7 +4,7 @@ use mathlib.Core.Bool.{true}
 use mathlib.Core.List.{List, _++_, map}
 use Prim.Native.Nat.{ℕ, _+_, _*_, _-_}
 use lib.ListN.{length, getD, replicate}
-use Rattle.poly.specs.Tab.{tab}
+use Rattle.lists.specs.Tab.{tab}
 use Rattle.code.specs.Code.{symbolOf}
 use Rattle.bundle_layout.specs.Blocks.{blocksOf}
 use Rattle.bundle_storage.specs.Bytes.{twoAt}

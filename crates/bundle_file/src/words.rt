@@ -8,7 +8,7 @@ ghost use Prim.Native.Nat.{_+_, _*_, _-_, _<_, _≤_};
 ghost use lib.ListN.{length, take, replicate};
 ghost use Rattle.limits.specs.Shape.{longest};
 ghost use Rattle.field.specs.Size.{sizeOf};
-ghost use Rattle.poly.specs.Tab.{tab};
+ghost use Rattle.lists.specs.Tab.{tab};
 ghost use Rattle.code.specs.Code.{codeWord};
 ghost use Rattle.bundle_storage.specs.Blocks.{mostBlocks};
 ghost use Rattle.bundle_layout.specs.Blocks.{blocksOf};

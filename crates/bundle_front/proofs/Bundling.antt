@@ -27,7 +27,7 @@ use Rattle.bundle_storage.proofs.RisingLaws.{InOrder, in-order-rises, rises-sam
 use Rattle.bundle_storage.proofs.Storing.{overflow-count, body-long}
 use Rattle.bundle_storage.proofs.Theorems.{body-stores}
 use Rattle.bundle_file.specs.File.{Rising, symbolAt, shadowOf, bundleAt, fileBundle}
-use Rattle.bundle_layout.specs.Rooms.{writeRoom}
+use Rattle.bundle_layout.specs.Rooms.{writeOut}
 
 pub symbol-small : (k n : ℕ) (file : List ℕ) (i b : ℕ) → symbolAt k n file i b < 65537
 unfolding symbolAt symbolOf
@@ -162,8 +162,8 @@ module _ (k n : ℕ) (file : List ℕ) where
         ∙ sym (offset-end (firstBody (length (shadows k n file))) (shadows k n file))
         ∙ ap (λ (m : ℕ). offsetOf (firstBody m) (shadows k n file) m) shadows-length
 
-    pub bundle-room : length (fileBundle k n file) ≤ writeRoom n (blocksOf k (length file))
-    unfolding writeRoom
+    pub bundle-room : length (fileBundle k n file) ≤ writeOut n (blocksOf k (length file))
+    unfolding writeOut
     bundle-room = omega (arith, bundle-end, body-le n (omega arith))
 
     module _ (i : ℕ) (h : i < n) where

@@ -19,7 +19,7 @@ use Rattle.bundle_storage.proofs.Cursors.{cursor-limited}
 use Rattle.decode_missing.specs.Weights.{weights}
 use Rattle.bundle_layout.specs.Fields.{nIn, heldIn, blocksIn, positionIn, countIn, offsetIn}
 use Rattle.bundle_layout.specs.Layout.{layoutChecks}
-use Rattle.bundle_layout.specs.Rooms.{workRoom}
+use Rattle.bundle_layout.specs.Rooms.{bundleWork}
 use Rattle.bundle_layout.proofs.Entries.{body-inside}
 use Rattle.bundle_layout.proofs.Passing.{position-after, offset-is-start, offset-inside, body-passed, bundle-limited}
 use Rattle.bundle_gather.specs.Gathering.{missingIn, wordsHeld, cursorHeld, weightedHeld, Fixed, Laid, Gathered}
@@ -52,11 +52,11 @@ module _ (s : List ℕ) (good : layoutChecks s ≡ result []) where
     unfolding wordsHeld cursorHeld
     cursor-small bytes b = lt-of-le-of-lt (cursor-limited (offsetIn s t) (countIn s t) s b) (words-small bytes)
 
-  pub cells-long : (size : ℕ) (cells : List ℕ) → size ≡ sizeOf (nIn s) → length cells ≡ workRoom (nIn s) → length cells ≡ 8 * size
-  unfolding workRoom
+  pub cells-long : (size : ℕ) (cells : List ℕ) → size ≡ sizeOf (nIn s) → length cells ≡ bundleWork (nIn s) → length cells ≡ 8 * size
+  unfolding bundleWork
   cells-long size cells is long = long ∙ ap (8 *_) (sym is)
 
-  pub shadow-inside : (size t : ℕ) (cells : List ℕ) → size ≡ sizeOf (nIn s) → t < heldIn s → length cells ≡ workRoom (nIn s) → (length cells ≡ 8 * size) × (t < size)
+  pub shadow-inside : (size t : ℕ) (cells : List ℕ) → size ≡ sizeOf (nIn s) → t < heldIn s → length cells ≡ bundleWork (nIn s) → (length cells ≡ 8 * size) × (t < size)
   shadow-inside size t cells is h long = (cells-long size cells is long, omega (arith, held-room s good, is, h))
 
   -- One shadow: what the code has read of the cells

@@ -15,8 +15,8 @@ use lib.Seq.{getD-set-same, getD-set-other}
 use Rattle.field.specs.Points.{pointOf}
 use Rattle.answers.specs.Refusals.{result}
 use Rattle.field.specs.Size.{sizeOf}
-use Rattle.poly.specs.Tab.{tab}
-use Rattle.poly.proofs.Tab.{tab-length, tab-at}
+use Rattle.lists.specs.Tab.{tab}
+use Rattle.lists.proofs.Tab.{tab-length, tab-at}
 use Rattle.decode_missing.specs.Marks.{Marks}
 use Rattle.decode_missing.specs.Missing.{unmarked}
 use Rattle.decode_missing.proofs.Laying.{unmarked-le}

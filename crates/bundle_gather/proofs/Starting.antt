@@ -15,10 +15,10 @@ use Rattle.answers.specs.Refusals.{result}
 use Rattle.limits.specs.Shape.{badShape}
 use Rattle.field.specs.Size.{sizeOf}
 use Rattle.poly.specs.Products.{vanishing}
-use Rattle.poly.specs.Tab.{tab}
+use Rattle.lists.specs.Tab.{tab}
 use Rattle.poly.specs.Value.{value}
-use Rattle.poly.proofs.Tab.{tab-getD}
-use Rattle.poly.proofs.Window.{window, window-length, window-before, window-at, window-past}
+use Rattle.lists.proofs.Tab.{tab-getD}
+use Rattle.lists.proofs.Window.{window, window-length, window-before, window-at, window-past}
 use Rattle.decode_between.specs.Between.{between}
 use Rattle.decode_between.proofs.Foldable.{power-at}
 use Rattle.decode_divide.specs.Quotients.{InversesBetween}
@@ -29,7 +29,7 @@ use Rattle.bundle_storage.specs.Storage.{wordsAt}
 use Rattle.bundle_storage.proofs.Cursors.{cursor-first}
 use Rattle.bundle_layout.specs.Fields.{kIn, nIn, heldIn, positionIn, countIn, offsetIn}
 use Rattle.bundle_layout.specs.Layout.{layoutChecks}
-use Rattle.bundle_layout.specs.Rooms.{workRoom}
+use Rattle.bundle_layout.specs.Rooms.{bundleWork}
 use Rattle.bundle_layout.proofs.Passing.{shape-passed, k-some}
 use Rattle.bundle_gather.specs.Gathering.{marksIn, missingIn, wordsHeld, cursorHeld, Shadows, Laid}
 use Rattle.bundle_gather.proofs.Kept.{held-room, size-order}
@@ -247,7 +247,7 @@ module _ (s : List ℕ) (good : layoutChecks s ≡ result []) (laid marks : List
           }
 
       laid-first : (count ≡ length (missingIn s)) × Laid s 0 now
-      unfolding workRoom
+      unfolding bundleWork
       laid-first = (
         count-is,
         record {

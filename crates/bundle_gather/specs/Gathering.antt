@@ -6,14 +6,14 @@ use Prim.Native.Nat.{ℕ, zero, suc, _+_, _*_, _<_}
 use lib.ListN.{length, getD, take, drop, replicate, set}
 use Rattle.field.specs.Field.{product, power}
 use Rattle.field.specs.Size.{sizeOf}
-use Rattle.poly.specs.Tab.{tab}
+use Rattle.lists.specs.Tab.{tab}
 use Rattle.decode_between.specs.Between.{psi}
 use Rattle.decode_divide.specs.Quotients.{InversesBetween}
 use Rattle.decode_missing.specs.Missing.{missingPoints}
 use Rattle.decode_missing.specs.Weights.{weights}
 use Rattle.bundle_storage.specs.Storage.{symbolIn, wordsAt, cursorAt}
 use Rattle.bundle_layout.specs.Fields.{kIn, nIn, heldIn, positionIn, countIn, offsetIn}
-use Rattle.bundle_layout.specs.Rooms.{workRoom}
+use Rattle.bundle_layout.specs.Rooms.{bundleWork}
 
 -- a mark for each of the N positions: 1 at those of the first t shadows
 unfoldable pub marksIn : List ℕ → ℕ → List ℕ
@@ -57,7 +57,7 @@ withSymbol s N b t cells = set (set cells (positionIn s t) (weightedHeld s b t))
 
 -- what stays
 pub record Fixed (s cells : List ℕ) : Type 0 where
-  pub long : length cells ≡ workRoom (nIn s)
+  pub long : length cells ≡ bundleWork (nIn s)
   pub inverses : 0 < length (missingIn s) → InversesBetween (sizeOf (nIn s)) (sizeOf (kIn s)) (missingIn s) (drop (2 * sizeOf (nIn s)) cells)
   pub powers : (j : ℕ) → j < sizeOf (nIn s) → getD cells (3 * sizeOf (nIn s) + j) 0 ≡ power (psi (sizeOf (nIn s))) j
   pub weighs : (j : ℕ) → j < sizeOf (nIn s) → getD cells (4 * sizeOf (nIn s) + j) 0 ≡ getD (weights (sizeOf (nIn s)) (missingIn s)) j 0

@@ -19,7 +19,7 @@ ghost use Rattle.answers.specs.Refusals.{result};
 ghost use Rattle.field.specs.Size.{sizeOf};
 ghost use Rattle.bundle_layout.specs.Fields.{kIn, nIn, heldIn};
 ghost use Rattle.bundle_layout.specs.Layout.{layoutChecks};
-ghost use Rattle.bundle_layout.specs.Rooms.{workRoom};
+ghost use Rattle.bundle_layout.specs.Rooms.{bundleWork};
 ghost use Rattle.bundle_gather.specs.Gathering.{marksIn, missingIn, withShadow, withWeights, Shadows, Laid};
 
 // Shadow t; size is N.
@@ -76,7 +76,7 @@ fn keep_weights(size: usize, cells: &mut [u32])
 // Every cursor at the front of its list; what is returned is how many positions are missing.
 pub fn start(bundle: &[u8], cells: &mut [u32]) -> usize
     requires { ⌜ (layoutChecks (now bundle) ≡ result []) × (kIn (now bundle) ≤ heldIn (now bundle))
-        × (length (now cells) ≡ workRoom (nIn (now bundle))) ⌝ }
+        × (length (now cells) ≡ bundleWork (nIn (now bundle))) ⌝ }
     ensures { λ r. ⌜ (r ≡ length (missingIn (now (bundle .entry)))) × Laid (now (bundle .entry)) 0 (now (cells .exit)) ⌝ }
 {
     let n = n_in(bundle);

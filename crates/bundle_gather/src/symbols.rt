@@ -3,7 +3,7 @@
 use bundle_layout::inner::held_in;
 use bundle_layout::inner::n_in;
 use bundle_storage::cursor_after;
-use bundle_storage::symbol_at;
+use bundle_storage::symbol_in;
 use cells::clear;
 use cells::wide;
 use field::product;
@@ -28,7 +28,7 @@ fn gather_one(bundle: &[u8], size: usize, b: usize, t: usize, cells: &mut [u32])
     let words = wide(cells[5 * size + t]);
     let cursor = wide(cells[6 * size + t]);
     let place = wide(cells[7 * size + t]);
-    let symbol = symbol_at(bundle, words, cursor, b);
+    let symbol = symbol_in(bundle, words, cursor, b);
     let value = product(symbol, cells[4 * size + place]);
     cells[place] = value;
     cells[6 * size + t] = cursor_after(cursor, symbol) as u32;

@@ -10,7 +10,7 @@ use lib.Dec.{eqb}
 use lib.ListN.{length, getD, take, drop, length-map, take-append-drop, drop-of-length-le}
 use lib.Seq.{length-take-le, getD-take, ext-getD, drop-drop}
 use Rattle.answers.specs.Refusals.{result}
-use Rattle.poly.specs.Tab.{tab}
+use Rattle.lists.specs.Tab.{tab}
 use Rattle.bundle_storage.specs.Bytes.{Bytes, two, four}
 use Rattle.bundle_layout.specs.Fields.{kIn, nIn, lengthIn, heldIn, lastIn, blocksIn, entryAt, positionIn, countIn, offsetIn}
 use Rattle.bundle_layout.specs.Held.{upTo, shadowIn, shadowsIn, positionsOf, Stored, AllStored, IsBundle}

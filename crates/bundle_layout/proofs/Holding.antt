@@ -10,8 +10,8 @@ use lib.ListN.{length, getD, drop, length-append}
 use lib.Seq.{drop-at}
 use Rattle.limits.specs.Shape.{longest}
 use Rattle.limits.proofs.Shape.{shape-good}
-use Rattle.poly.specs.Tab.{tab}
-use Rattle.poly.proofs.Tab.{tab-length, tab-at}
+use Rattle.lists.specs.Tab.{tab}
+use Rattle.lists.proofs.Tab.{tab-length, tab-at}
 use Rattle.bundle_storage.specs.Blocks.{mostBlocks}
 use Rattle.bundle_layout.specs.Blocks.{blocksOf}
 use Rattle.bundle_layout.specs.Shape.{longestFile, badBundleShape}

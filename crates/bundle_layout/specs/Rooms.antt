@@ -4,8 +4,8 @@ use Rattle.field.specs.Size.{sizeOf}
 use Rattle.bundle_layout.specs.Shadows.{firstBody}
 
 -- 16 + 8n + 4nB
-unfoldable pub writeRoom : ℕ → ℕ → ℕ
-writeRoom n B = firstBody n + 4 * (n * B)
+unfoldable pub writeOut : ℕ → ℕ → ℕ
+writeOut n B = firstBody n + 4 * (n * B)
 
-unfoldable pub workRoom : ℕ → ℕ
-workRoom n = 8 * sizeOf n
+unfoldable pub bundleWork : ℕ → ℕ
+bundleWork n = 8 * sizeOf n

@@ -19,9 +19,9 @@ use Rattle.field.proofs.Ring.{product-lt}
 use Rattle.limits.proofs.Shape.{shape-good, level-twice}
 use Rattle.field.proofs.Sizes.{size-size}
 use Rattle.poly.specs.Products.{vanishing}
-use Rattle.poly.specs.Tab.{tab}
+use Rattle.lists.specs.Tab.{tab}
 use Rattle.poly.specs.Value.{value}
-use Rattle.poly.proofs.Tab.{tab-length, tab-at}
+use Rattle.lists.proofs.Tab.{tab-length, tab-at}
 use Rattle.code.specs.Meeting.{messageOf}
 use Rattle.code.proofs.Decoding.{decodes-fitting}
 use Rattle.code.proofs.Meeting.{message-is}

@@ -9,7 +9,7 @@ use Rattle.field.specs.Field.{product}
 use Rattle.answers.specs.Refusals.{result}
 use Rattle.field.specs.Size.{sizeOf}
 use Rattle.poly.proofs.Symbols.{tab-symbols}
-use Rattle.poly.proofs.Tab.{tab-length, tab-at}
+use Rattle.lists.proofs.Tab.{tab-length, tab-at}
 use Rattle.code.specs.Held.{held}
 use Rattle.code.specs.Decodable.{Decodable}
 use Rattle.decode_missing.specs.Marks.{Marks}

@@ -10,9 +10,9 @@ use borrow.Author.Tests.{eq-eqb, ne-eqb}
 use lib.Dec.{eqb}
 use lib.ListN.{length, getD, take, drop, set, length-drop, drop-of-length-le}
 use lib.Seq.{getD-drop, getD-take, length-take-le, take-all}
-use Rattle.poly.specs.Tab.{tab}
-use Rattle.poly.proofs.Tab.{tab-ext, tab-getD}
-use Rattle.poly.proofs.Window.{window, window-length, window-store}
+use Rattle.lists.specs.Tab.{tab}
+use Rattle.lists.proofs.Tab.{tab-ext, tab-getD}
+use Rattle.lists.proofs.Window.{window, window-length, window-store}
 use Rattle.bundle_storage.specs.Bytes.{two, inBytes, put}
 use Rattle.bundle_storage.proofs.PutLaws.{stores-two}
 use Rattle.bundle_read.specs.Reading.{some-meets}

@@ -2,7 +2,7 @@
 use mathlib.Core.List.{List, _++_}
 use Prim.Native.Nat.{ℕ, _+_, _*_, _-_}
 use lib.ListN.{length, getD, take, drop}
-use Rattle.poly.specs.Tab.{tab}
+use Rattle.lists.specs.Tab.{tab}
 use Rattle.bundle_storage.specs.Bytes.{inBytes}
 
 -- the first words of the message, so many, from an index on

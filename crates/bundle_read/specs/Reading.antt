@@ -9,7 +9,7 @@ use lib.ListN.{length, getD, take, drop}
 use Rattle.answers.specs.First.{first}
 use Rattle.answers.specs.Refusals.{Answer, result, refused, refuseIf, after}
 use Rattle.answers.specs.declared.refusal.Refusal.the-variants.{Disagree, Word, Tail}
-use Rattle.poly.specs.Tab.{tab}
+use Rattle.lists.specs.Tab.{tab}
 use Rattle.code.specs.Decoding.{decodeOf}
 use Rattle.code.specs.Held.{Held, held}
 use Rattle.bundle_storage.specs.Bytes.{inBytes}

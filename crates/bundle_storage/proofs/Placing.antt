@@ -40,8 +40,8 @@ put-inner bytes p body q at i e h =
     ∙ simp append-assoc
 
 -- so many bytes of a list from an index on, as they are lent
-pub lent-length : (at size : ℕ) (s : List ℕ) → at + size ≤ length s → length (take (at + size - at) (drop at s)) ≡ size
-lent-length at size s inside =
+pub lent-bytes-length : (at size : ℕ) (s : List ℕ) → at + size ≤ length s → length (take (at + size - at) (drop at s)) ≡ size
+lent-bytes-length at size s inside =
     length-take-le (at + size - at) (drop at s) (omega (arith, length-drop at s)) ∙ omega arith
 
 module _ (count done b x : ℕ) where
@@ -73,7 +73,7 @@ module _ (count done b x : ℕ) where
       → take at s ++ (after ++ drop (at + size - at) (drop at s)) ≡ stored at count done b x s
   stored-part at size s after inside h l is =
       let m = at + size - at in
-      let long = lent-length at size s inside in
+      let long = lent-bytes-length at size s inside in
       ap (λ (body : List ℕ). take at s ++ (body ++ drop m (drop at s))) is
       ∙ sym (stored-inner (take at s) (take m (drop at s)) (drop m (drop at s)) at (length-take-le at s (omega arith)) (omega arith) (omega arith))
       ∙ ap (stored at count done b x) (ap (take at s ++_) (take-append-drop m (drop at s)) ∙ take-append-drop at s)

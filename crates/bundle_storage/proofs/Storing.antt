@@ -12,8 +12,8 @@ use lib.Dec.{leb, eqb, lit<}
 use lib.ListN.{length, getD, length-append, List·getD-append}
 use lib.Seq.{getD-at}
 use Rattle.answers.proofs.First.{first-none}
-use Rattle.poly.specs.Tab.{tab}
-use Rattle.poly.proofs.Tab.{tab-length, tab-at}
+use Rattle.lists.specs.Tab.{tab}
+use Rattle.lists.proofs.Tab.{tab-length, tab-at}
 use Rattle.bundle_storage.specs.Blocks.{mostBlocks}
 use Rattle.bundle_storage.specs.Bytes.{Bytes, inBytes, twoAt}
 use Rattle.bundle_storage.specs.Rising.{least, rises}

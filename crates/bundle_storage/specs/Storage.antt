@@ -7,7 +7,7 @@ use Prim.Native.Nat.{ℕ, zero, suc, _+_, _*_, _<_}
 use lib.Dec.{leb, ltb, eqb}
 use lib.ListN.{length, drop}
 use Rattle.answers.specs.First.{first}
-use Rattle.poly.specs.Tab.{tab}
+use Rattle.lists.specs.Tab.{tab}
 use Rattle.bundle_storage.specs.Bytes.{two, inBytes, twoAt, put}
 use Rattle.bundle_storage.specs.Rising.{rises}
 

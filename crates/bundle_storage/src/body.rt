@@ -55,7 +55,7 @@ fn is_next(bytes: &[u8], words: usize, cursor: usize, b: usize) -> bool
 }
 
 // The symbol of block b: 65536 where it is listed, else its word.
-pub fn symbol_at(bytes: &[u8], words: usize, cursor: usize, b: usize) -> u32
+pub fn symbol_in(bytes: &[u8], words: usize, cursor: usize, b: usize) -> u32
     requires { ⌜ ((at : ℕ) × (B : ℕ) × (c : ℕ) × Placed at B c (now bytes) b words cursor) ⌝ }
     ensures { λ r. ⌜ ((at B c : ℕ) → Placed at B c (now (bytes .entry)) b words cursor
         → r ≡ symbolIn c (drop at (now (bytes .entry))) b) ⌝ }

@@ -7,7 +7,7 @@ pub use body::body_good;
 pub use body::body_size;
 pub use body::cursor_after;
 pub use body::store;
-pub use body::symbol_at;
+pub use body::symbol_in;
 pub use body::words_at;
 pub use bytes::four_at;
 pub use bytes::put_four;

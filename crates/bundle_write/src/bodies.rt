@@ -25,7 +25,7 @@ ghost use Rattle.bundle_layout.specs.Fields.{entryAt, countIn, offsetIn};
 ghost use Rattle.bundle_layout.specs.Shadows.{entrySize};
 ghost use Rattle.bundle_storage.specs.Storage.{stored, bodySize};
 ghost use Rattle.bundle_file.specs.File.{fileBundle};
-ghost use Rattle.bundle_layout.specs.Rooms.{writeRoom, workRoom};
+ghost use Rattle.bundle_layout.specs.Rooms.{writeOut, bundleWork};
 ghost use Rattle.bundle_file.specs.Counts.{Coded, Counted};
 ghost use Rattle.bundle_front.specs.Onward.{Onward};
 ghost use Rattle.bundle_write.specs.Writing.{Progress};
@@ -109,10 +109,10 @@ fn write_within(k: usize, n: usize, file: &[u8], out: &mut [u8], cells: &mut [u3
 // The whole bundle at the output's front, and its length; cells is the stated working space.
 pub fn write_all(k: usize, n: usize, file: &[u8], out: &mut [u8], cells: &mut [u32]) -> usize
     requires { ⌜ (badBundleShape k n (length (now file)) ≡ false)
-        × (writeRoom n (blocksOf k (length (now file))) ≤ length (now out)) × (length (now cells) ≡ workRoom n) ⌝ }
+        × (writeOut n (blocksOf k (length (now file))) ≤ length (now out)) × (length (now cells) ≡ bundleWork n) ⌝ }
     ensures { λ r. ⌜ r ≡ length (fileBundle k n (now (file .entry))) ⌝ }
     ensures { λ _. ⌜ now (out .exit) ≡ written (fileBundle k n (now (file .entry))) (now (out .entry)) ⌝ }
-    ensures { λ _. ⌜ now (cells .exit) ≡ replicate (workRoom n) 0 ⌝ }
+    ensures { λ _. ⌜ now (cells .exit) ≡ replicate (bundleWork n) 0 ⌝ }
 {
     let size = size(n);
     let length = write_within(k, n, file, out, &mut cells[0..2 * size]);

@@ -7,9 +7,9 @@ use native.Mathlib.Nat.{zero-add}
 use native.Mathlib.Omega.{arith}
 use lib.ListN.{length, getD, drop, replicate, drop-of-length-le}
 use Rattle.answers.specs.Leaves.{written}
-use Rattle.poly.specs.Tab.{tab}
-use Rattle.poly.proofs.Tab.{tab-getD}
-use Rattle.poly.proofs.Window.{window}
+use Rattle.lists.specs.Tab.{tab}
+use Rattle.lists.proofs.Tab.{tab-getD}
+use Rattle.lists.proofs.Window.{window}
 
 pub filled-whole : (i : ℕ) (d : List ℕ) → i ≤ length d → length d ≤ i → replicate i 0 ++ drop i d ≡ replicate (length d) 0
 filled-whole i d h l =

@@ -16,7 +16,7 @@ use Rattle.field.proofs.Sizes.{size-enough}
 use Rattle.field.proofs.Theorems.{points-distinct}
 use Rattle.poly.specs.Distinct.{Distinct}
 use Rattle.poly.proofs.Distinct.{distinct-tab}
-use Rattle.poly.proofs.Tab.{tab-length, tab-at}
+use Rattle.lists.proofs.Tab.{tab-length, tab-at}
 use Rattle.code.specs.Decoding.{pointsOf}
 use Rattle.code.specs.Positions.{Inside}
 use Rattle.code.specs.Repeats.{Apart}

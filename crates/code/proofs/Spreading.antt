@@ -15,9 +15,9 @@ use Rattle.answers.proofs.Leaves.{lent-length}
 use Rattle.limits.proofs.Shape.{shape-good, longest-le}
 use Rattle.field.proofs.Sizes.{level-le, size-power, size-enough}
 use Rattle.poly.specs.Value.{value}
-use Rattle.poly.proofs.Every.{every-replicate}
+use Rattle.lists.proofs.Every.{every-replicate}
 use Rattle.poly.proofs.Symbols.{symbols-at, append-symbols}
-use Rattle.poly.proofs.Tab.{tab-length, tab-at}
+use Rattle.lists.proofs.Tab.{tab-length, tab-at}
 use Rattle.poly.proofs.Values.{value-append, value-zeros}
 use Rattle.transform_halving.specs.Transformable.{Transformable}
 use Rattle.transform_halving.specs.Transform.{transformOf}
@@ -25,7 +25,7 @@ use Rattle.transform_halving.proofs.Transformable.{transformable-of}
 use Rattle.transform_halving.proofs.Theorems.{transform-is-value, transform-symbols}
 use Rattle.code.specs.Code.{symbolOf, codeWord}
 use Rattle.code.specs.Codable.{Codable}
-use Rattle.code.specs.Rooms.{encodeRoom}
+use Rattle.code.specs.Rooms.{encodeWork}
 use Rattle.code.proofs.Meeting.{polynomial-is}
 
 -- The message laid out: copied is what the cells hold after it is copied, cleared what the rest of them holds
@@ -110,9 +110,9 @@ module _ (n : ℕ) (message : List ℕ) (good : Codable n message) where
 
 -- In the cells themselves: S is N, and e and f are what the two parts that are lent hold afterwards
 
-module _ (n S : ℕ) (message cells : List ℕ) (good : Codable n message) (size : S ≡ sizeOf n) (long : length cells ≡ encodeRoom n) where
+module _ (n S : ℕ) (message cells : List ℕ) (good : Codable n message) (size : S ≡ sizeOf n) (long : length cells ≡ encodeWork n) where
   part-length : length (take (S - 0) cells) ≡ sizeOf n
-  unfolding encodeRoom
+  unfolding encodeWork
   part-length = lent-length S (sizeOf n) cells size (omega arith)
 
   pub message-fits : length message ≤ length (take (S - 0) cells)
@@ -148,8 +148,8 @@ module _ (n S : ℕ) (message cells : List ℕ) (good : Codable n message) (size
           ∙ ap₂ take {x = n - 0} {y = n} (omega arith) f-is
           ∙ kept-front n message good
 
-      pub cells-length : length (f ++ drop (S - 0) (e ++ drop (S - 0) cells)) ≡ encodeRoom n
-      unfolding encodeRoom
+      pub cells-length : length (f ++ drop (S - 0) (e ++ drop (S - 0) cells)) ≡ encodeWork n
+      unfolding encodeWork
       cells-length =
           length-append f _
           ∙ omega (

@@ -1,5 +1,5 @@
 -- The message that fits all held symbols, if there is one: it has to be the one through the first k of them, and then all m are compared.
--- Theorems.antt says that this is the message that fits, and none where none does (`DecodesFitting`, `DecodesNone`).
+-- Theorems.antt of block says that this is the message that fits, and none where none does (`DecodesFitting`, `DecodesNone`).
 use mathlib.Core.Bool.{cond, not}
 use mathlib.Core.List.{List}
 use mathlib.Core.Option.{Option, some, none}
@@ -10,7 +10,7 @@ use Rattle.answers.specs.First.{first}
 use Rattle.field.specs.Points.{pointOf}
 use Rattle.field.specs.Size.{sizeOf}
 use Rattle.poly.specs.Interpolation.{through}
-use Rattle.poly.specs.Tab.{tab}
+use Rattle.lists.specs.Tab.{tab}
 use Rattle.code.specs.Code.{symbolOf}
 use Rattle.code.specs.Held.{Held, heldCount}
 use Rattle.code.specs.Meeting.{messageOf}

@@ -2,8 +2,8 @@
 use Prim.Native.Nat.{ℕ, _*_}
 use Rattle.field.specs.Size.{sizeOf}
 
-unfoldable pub encodeRoom : ℕ → ℕ
-encodeRoom n = 2 * sizeOf n
+unfoldable pub encodeWork : ℕ → ℕ
+encodeWork n = 2 * sizeOf n
 
-unfoldable pub decodeRoom : ℕ → ℕ
-decodeRoom n = 4 * sizeOf n
+unfoldable pub decodeWork : ℕ → ℕ
+decodeWork n = 4 * sizeOf n

@@ -11,7 +11,7 @@ ghost use lib.ListN.{length, replicate};
 ghost use Rattle.answers.specs.Leaves.{written};
 ghost use Rattle.code.specs.Code.{codeWord};
 ghost use Rattle.code.specs.Codable.{Codable};
-ghost use Rattle.code.specs.Rooms.{encodeRoom};
+ghost use Rattle.code.specs.Rooms.{encodeWork};
 
 // The message as the first of N coefficients, the others 0.
 fn lay(message: &[u32], cells: &mut [u32])
@@ -25,9 +25,9 @@ fn lay(message: &[u32], cells: &mut [u32])
 
 // The code word by one transform; cells is the stated working space.
 pub fn spread(n: usize, message: &[u32], out: &mut [u32], cells: &mut [u32])
-    requires { ⌜ Codable n (now message) × (n ≤ length (now out)) × (length (now cells) ≡ encodeRoom n) ⌝ }
+    requires { ⌜ Codable n (now message) × (n ≤ length (now out)) × (length (now cells) ≡ encodeWork n) ⌝ }
     ensures { λ _. ⌜ now (out .exit) ≡ written (codeWord n (now (message .entry))) (now (out .entry)) ⌝ }
-    ensures { λ _. ⌜ now (cells .exit) ≡ replicate (encodeRoom n) 0 ⌝ }
+    ensures { λ _. ⌜ now (cells .exit) ≡ replicate (encodeWork n) 0 ⌝ }
 {
     let size = size(n);
     lay(message, &mut cells[0..size]);

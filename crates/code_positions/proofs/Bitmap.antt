@@ -14,7 +14,7 @@ use lib.Dec.{eqb}
 use lib.ListN.{length, getD, replicate}
 use lib.Pow.{pow-pos, pow-add, split, shr-lt, high, field, mod-mod-pow}
 use lib.Seq.{getD-set-same, getD-set-other}
-use Rattle.code_positions.specs.Bitmap.{marked, withMark}
+use Rattle.code_positions.specs.Bitmap.{seen, withSeen}
 
 -- Bit b of w is w / 2 ^ b % 2. To set it where it is 0 is to add 2 ^ b.
 
@@ -55,39 +55,39 @@ bit-other w b c e other =
           rw (distance less) at (bit-below w c (b - suc c))
     ]
 
-module _ (map : List ℕ) (p : ℕ) (free : marked map p ≡ false) where
+module _ (map : List ℕ) (p : ℕ) (free : seen map p ≡ false) where
   zero-bit : getD map (p / 32) 0 / 2 ^ (p % 32) % 2 ≡ 0
-  unfolding marked
+  unfolding seen
   zero-bit = omega (arith, eqb-false (getD map (p / 32) 0 / 2 ^ (p % 32) % 2) 1 free)
 
-  pub mark-fits : getD map (p / 32) 0 < 2 ^ 32 → getD map (p / 32) 0 + 2 ^ (p % 32) < 2 ^ 32
-  mark-fits h =
+  pub seen-fits : getD map (p / 32) 0 < 2 ^ 32 → getD map (p / 32) 0 + 2 ^ (p % 32) < 2 ^ 32
+  seen-fits h =
       let less : p % 32 < 32 = omega arith in
       rw (distance less) at (no-carry (getD map (p / 32) 0) (p % 32) (32 - suc (p % 32)) (rw (distance less) h) zero-bit)
 
   module _ (inside : p / 32 < length map) where
-    cell-same : getD (withMark map p) (p / 32) 0 ≡ getD map (p / 32) 0 + 2 ^ (p % 32)
-    unfolding withMark
+    cell-same : getD (withSeen map p) (p / 32) 0 ≡ getD map (p / 32) 0 + 2 ^ (p % 32)
+    unfolding withSeen
     cell-same = getD-set-same map (p / 32) _ 0 inside
 
-    cell-other : (q : ℕ) → ¬ (q / 32 ≡ p / 32) → getD (withMark map p) (q / 32) 0 ≡ getD map (q / 32) 0
-    unfolding withMark
+    cell-other : (q : ℕ) → ¬ (q / 32 ≡ p / 32) → getD (withSeen map p) (q / 32) 0 ≡ getD map (q / 32) 0
+    unfolding withSeen
     cell-other q apart = getD-set-other map (p / 32) (q / 32) _ 0 apart
 
-    pub mark-same : marked (withMark map p) p ≡ true
-    unfolding marked
-    mark-same = rw cell-same (eq-eqb _ 1 (bit-same _ (p % 32) zero-bit))
+    pub seen-same : seen (withSeen map p) p ≡ true
+    unfolding seen
+    seen-same = rw cell-same (eq-eqb _ 1 (bit-same _ (p % 32) zero-bit))
 
-    same-bit : (q : ℕ) → ¬ (p ≡ q) → getD (withMark map p) (q / 32) 0 / 2 ^ (q % 32) % 2 ≡ getD map (q / 32) 0 / 2 ^ (q % 32) % 2
+    same-bit : (q : ℕ) → ¬ (p ≡ q) → getD (withSeen map p) (q / 32) 0 / 2 ^ (q % 32) % 2 ≡ getD map (q / 32) 0 / 2 ^ (q % 32) % 2
     same-bit q other =
         elim (ℕ-discrete (q / 32) (p / 32)) [
           | yes e ↦ rw (e, cell-same) (bit-other (getD map (p / 32) 0) (p % 32) (q % 32) zero-bit (λ same. other (omega arith)))
           | no apart ↦ ap (λ (x : ℕ). x / 2 ^ (q % 32) % 2) (cell-other q apart)
         ]
 
-    pub mark-other : (q : ℕ) → ¬ (p ≡ q) → marked (withMark map p) q ≡ marked map q
-    unfolding marked
-    mark-other q other = ap (λ (x : ℕ). eqb x 1) (same-bit q other)
+    pub seen-other : (q : ℕ) → ¬ (p ≡ q) → seen (withSeen map p) q ≡ seen map q
+    unfolding seen
+    seen-other q other = ap (λ (x : ℕ). eqb x 1) (same-bit q other)
 
 -- an empty map
 
@@ -96,6 +96,6 @@ zeros zero i = refl
 zeros (suc n) zero = refl
 zeros (suc n) (suc i) = zeros n i
 
-pub none-marked : (n p : ℕ) → marked (replicate n 0) p ≡ false
-unfolding marked
-none-marked n p = rw (zeros n (p / 32), zero-div (2 ^ (p % 32)))
+pub none-seen : (n p : ℕ) → seen (replicate n 0) p ≡ false
+unfolding seen
+none-seen n p = rw (zeros n (p / 32), zero-div (2 ^ (p % 32)))

@@ -11,9 +11,9 @@ use borrow.Author.Tests.{ltb-false, le-ltb, eqb-false, ne-eqb}
 use lib.Dec.{eqb}
 use lib.ListN.{length, getD, replicate}
 use Rattle.answers.proofs.First.{first-here, first-none, first-all, first-before}
-use Rattle.code_positions.specs.Bitmap.{marked, withMark}
+use Rattle.code_positions.specs.Bitmap.{seen, withSeen}
 use Rattle.code.specs.Repeats.{standsEarlier, firstRepeat}
-use Rattle.code_positions.proofs.Bitmap.{mark-same, mark-other, none-marked}
+use Rattle.code_positions.proofs.Bitmap.{seen-same, seen-other, none-seen}
 
 module _ (positions : List ℕ) where
   -- what it means that a position stands earlier
@@ -43,12 +43,12 @@ module _ (positions : List ℕ) where
   unfolding firstRepeat
   none-repeat apart = first-none _ _ (λ j h. earlier-none j (λ i less. apart i j less h))
 
--- what a search knows at index i: no position before it is a repeat, and the map marks just these positions
+-- what a search knows at index i: no position before it is a repeat, and the map has just these positions
 pub record Passed (positions map : List ℕ) (i : ℕ) : Type 0 where
   pub some : i ≤ length positions
   pub different : (k : ℕ) → k < i → standsEarlier positions k ≡ false
-  pub seen : (k : ℕ) → k < i → marked map (getD positions k 0) ≡ true
-  pub only : (q : ℕ) → marked map q ≡ true → (k : ℕ) × (k < i) × (getD positions k 0 ≡ q)
+  pub all : (k : ℕ) → k < i → seen map (getD positions k 0) ≡ true
+  pub only : (q : ℕ) → seen map q ≡ true → (k : ℕ) × (k < i) × (getD positions k 0 ≡ q)
 
 module _ (positions : List ℕ) where
   pub passed-none : (n i : ℕ) → i ≡ 0 → Passed positions (replicate n 0) i
@@ -56,8 +56,8 @@ module _ (positions : List ℕ) where
       record {
         some = omega arith;
         different = rw start (below-none _);
-        seen = rw start (below-none _);
-        only = λ q m. absurd (true≢false (sym m ∙ none-marked n q));
+        all = rw start (below-none _);
+        only = λ q m. absurd (true≢false (sym m ∙ none-seen n q));
       }
 
   module _ (map : List ℕ) (i : ℕ) (passed : Passed positions map i) where
@@ -66,33 +66,33 @@ module _ (positions : List ℕ) where
     passed-all h = first-all _ i _ (passed .some) h (passed .different)
 
     module _ (p : ℕ) (at : getD positions i 0 ≡ p) (h : i < length positions) where
-      pub passed-here : marked map p ≡ true → firstRepeat positions ≡ i
+      pub passed-here : seen map p ≡ true → firstRepeat positions ≡ i
       unfolding firstRepeat
       passed-here m =
           let earlier = passed .only p m in
           first-here _ i _ h (passed .different) (earlier-some positions i (earlier .0) (earlier .1) (earlier .2 ∙ sym at))
 
-      module _ (free : marked map p ≡ false) (inside : p / 32 < length map) where
+      module _ (free : seen map p ≡ false) (inside : p / 32 < length map) where
         new : (k : ℕ) → k < i → ¬ (p ≡ getD positions k 0)
-        new k less e = true≢false (sym (passed .seen k less) ∙ ap (marked map) (sym e) ∙ free)
+        new k less e = true≢false (sym (passed .all k less) ∙ ap (seen map) (sym e) ∙ free)
 
-        more-only : (q : ℕ) → marked (withMark map p) q ≡ true → (k : ℕ) × (k < i + 1) × (getD positions k 0 ≡ q)
+        more-only : (q : ℕ) → seen (withSeen map p) q ≡ true → (k : ℕ) × (k < i + 1) × (getD positions k 0 ≡ q)
         more-only q m =
             elim (ℕ-discrete p q) [
               | yes e ↦ (i, omega arith, at ∙ e)
               | no other ↦
-                  let before = passed .only q (sym (mark-other map p free inside q other) ∙ m) in
+                  let before = passed .only q (sym (seen-other map p free inside q other) ∙ m) in
                   (before .0, omega (arith, before .1), before .2)
             ]
 
-        pub passed-more : Passed positions (withMark map p) (i + 1)
+        pub passed-more : Passed positions (withSeen map p) (i + 1)
         passed-more =
             record {
               some = omega arith;
               different = below-more _ i (passed .different) (earlier-none positions i (λ k less e. new k less (sym (e ∙ at))));
-              seen =
+              all =
                   below-more _ i
-                  (λ k less. mark-other map p free inside (getD positions k 0) (new k less) ∙ passed .seen k less)
-                  (rw at (mark-same map p free inside));
+                  (λ k less. seen-other map p free inside (getD positions k 0) (new k less) ∙ passed .all k less)
+                  (rw at (seen-same map p free inside));
               only = more-only;
             }

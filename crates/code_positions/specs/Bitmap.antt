@@ -6,9 +6,9 @@ use lib.Dec.{eqb}
 use lib.ListN.{getD, set}
 
 -- the bit of the position is 1
-unfoldable pub marked : List ℕ → ℕ → Bool
-marked map position = eqb (getD map (position / 32) 0 / 2 ^ (position % 32) % 2) 1
+unfoldable pub seen : List ℕ → ℕ → Bool
+seen map position = eqb (getD map (position / 32) 0 / 2 ^ (position % 32) % 2) 1
 
 -- the map after that bit, which was 0, became 1
-unfoldable pub withMark : List ℕ → ℕ → List ℕ
-withMark map position = set map (position / 32) (getD map (position / 32) 0 + 2 ^ (position % 32))
+unfoldable pub withSeen : List ℕ → ℕ → List ℕ
+withSeen map position = set map (position / 32) (getD map (position / 32) 0 + 2 ^ (position % 32))

@@ -6,7 +6,7 @@ ghost use mathlib.Core.Bool.{false};
 ghost use Prim.Native.Nat.{_/_, _%_, _^_, _<_};
 ghost use lib.ListN.{length};
 ghost use Rattle.limits.specs.Shape.{longest};
-ghost use Rattle.code_positions.specs.Bitmap.{marked, withMark};
+ghost use Rattle.code_positions.specs.Bitmap.{seen, withSeen};
 ghost use Rattle.code.specs.Positions.{Inside};
 ghost use Rattle.code.specs.Repeats.{firstRepeat};
 
@@ -20,18 +20,18 @@ fn bit_of(position: usize) -> u32
     1 << (position % 32)
 }
 
-fn is_marked(map: &[u32], position: usize) -> bool
+fn is_seen(map: &[u32], position: usize) -> bool
     requires { ⌜ position / 32 < length (now map) ⌝ }
-    ensures { λ r. ⌜ r ≡ marked (now (map .entry)) position ⌝ }
+    ensures { λ r. ⌜ r ≡ seen (now (map .entry)) position ⌝ }
 {
     let bit = bit_of(position);
     map[position / 32] / bit % 2 == 1
 }
 
 // Sets a bit that is not set yet, so that nothing is carried.
-fn mark(map: &mut [u32], position: usize)
-    requires { ⌜ (position / 32 < length (now map)) × (marked (now map) position ≡ false) ⌝ }
-    ensures { λ _. ⌜ now (map .exit) ≡ withMark (now (map .entry)) position ⌝ }
+fn note_seen(map: &mut [u32], position: usize)
+    requires { ⌜ (position / 32 < length (now map)) × (seen (now map) position ≡ false) ⌝ }
+    ensures { λ _. ⌜ now (map .exit) ≡ withSeen (now (map .entry)) position ⌝ }
 {
     map[position / 32] += bit_of(position);
 }
@@ -45,10 +45,10 @@ pub fn first_repeat(positions: &[u32]) -> usize
     let mut i = 0;
     while i < positions.len() {
         let position = positions[i] as usize;
-        if is_marked(&map, position) {
+        if is_seen(&map, position) {
             return i;
         }
-        mark(&mut map, position);
+        note_seen(&mut map, position);
         i += 1;
     }
     i

@@ -12,10 +12,10 @@ use Rattle.field.specs.Size.{levelOf}
 use Rattle.field.proofs.Congruence.{≈-of, ≈-sym, ≈-refl, _∘≈_, _+≈_, _·≈_, pow-≈, comb}
 use Rattle.field.proofs.Powers.{mul-pow, full-power, one-pow, pow-times}
 use Rattle.field.proofs.Roots.{root-half, root-full}
-use Rattle.poly.specs.Every.{Every}
+use Rattle.lists.specs.Every.{Every}
 use Rattle.poly.specs.Products.{vanishing}
 use Rattle.poly.specs.Value.{value}
-use Rattle.poly.proofs.Every.{every-map}
+use Rattle.lists.proofs.Every.{every-map}
 use Rattle.poly.proofs.Products.{vanishing-apart}
 use Rattle.decode_between.specs.Between.{psi, between}
 

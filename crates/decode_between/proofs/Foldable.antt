@@ -16,7 +16,7 @@ use Rattle.field.specs.Symbol.{Symbols}
 use Rattle.field.proofs.Ring.{power-lt, symbols-product}
 use Rattle.limits.proofs.Shape.{size-le}
 use Rattle.field.proofs.Sizes.{size-power, size-small, size-size, level-least}
-use Rattle.poly.proofs.Tab.{tab-at}
+use Rattle.lists.proofs.Tab.{tab-at}
 use Rattle.decode_between.specs.Between.{psi}
 use Rattle.decode_between.specs.Foldable.{PsiTable, Foldable}
 

@@ -16,7 +16,7 @@ use Rattle.field.proofs.Ring.{power-≈}
 use Rattle.poly.specs.Sum.{total}
 use Rattle.poly.specs.Value.{value}
 use Rattle.poly.proofs.Sum.{total-≈, total-scale}
-use Rattle.poly.proofs.Tab.{tab-length, tab-ext}
+use Rattle.lists.proofs.Tab.{tab-length, tab-ext}
 use Rattle.poly.proofs.Values.{plain-sum, value-tab}
 use Rattle.transform_halving.specs.Transform.{transformOf}
 use Rattle.transform_halving.proofs.Sums.{values}

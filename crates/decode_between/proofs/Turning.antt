@@ -17,7 +17,7 @@ use Rattle.field.proofs.Ring.{power-times}
 use Rattle.field.proofs.Roots.{root-is}
 use Rattle.field.proofs.Sizes.{level-least, size-power}
 use Rattle.transform_halving.specs.Transformable.{Transformable}
-use Rattle.transform_table.specs.Part.{part}
+use Rattle.lists.specs.Part.{part}
 use Rattle.transform_table.specs.Turns.{Turns, Tabled}
 use Rattle.decode_between.specs.Between.{psi}
 use Rattle.decode_between.specs.Foldable.{PsiTable}

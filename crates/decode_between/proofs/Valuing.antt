@@ -11,12 +11,12 @@ use Rattle.field.specs.Points.{rootOf}
 use Rattle.field.specs.Size.{sizeOf}
 use Rattle.field.specs.Symbol.{Symbols}
 use Rattle.poly.proofs.Symbols.{tab-symbols}
-use Rattle.poly.proofs.Tab.{tab-length}
+use Rattle.lists.proofs.Tab.{tab-length}
 use Rattle.transform_halving.specs.Transformable.{Transformable}
 use Rattle.transform_halving.specs.Transform.{transformOf}
-use Rattle.transform_table.specs.Part.{part, replaced}
+use Rattle.lists.specs.Part.{part, replaced}
 use Rattle.transform_table.specs.Turns.{Tabled}
-use Rattle.transform_table.proofs.Part.{replaced-length, replaced-part, replaced-behind, replaced-twice}
+use Rattle.lists.proofs.Part.{replaced-length, replaced-part, replaced-behind, replaced-twice}
 use Rattle.decode_between.specs.Between.{valuesBetween, folded}
 use Rattle.decode_between.specs.Foldable.{Foldable}
 use Rattle.decode_between.proofs.Between.{root-one}

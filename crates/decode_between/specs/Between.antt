@@ -8,7 +8,7 @@ use Rattle.field.specs.Points.{rootOf}
 use Rattle.field.specs.Roots.{root}
 use Rattle.field.specs.Size.{levelOf}
 use Rattle.poly.specs.Sum.{total}
-use Rattle.poly.specs.Tab.{tab}
+use Rattle.lists.specs.Tab.{tab}
 use Rattle.poly.specs.Value.{value}
 
 -- ψ, the root of order 2N

@@ -6,7 +6,7 @@ use lib.ListN.{length, take, drop}
 use Rattle.field.specs.Field.{power}
 use Rattle.field.specs.Size.{levelOf, sizeOf}
 use Rattle.field.specs.Symbol.{Symbols}
-use Rattle.poly.specs.Tab.{tab}
+use Rattle.lists.specs.Tab.{tab}
 use Rattle.decode_between.specs.Between.{psi}
 
 -- the powers of ψ, and that there is a root of order 2N

@@ -6,7 +6,7 @@ ghost use mathlib.Core.Path.{_≡_};
 ghost use Prim.Native.Nat.{_<_};
 ghost use lib.ListN.{take};
 ghost use Rattle.field.specs.Symbol.{IsSymbol};
-ghost use Rattle.transform_table.specs.Part.{replaced};
+ghost use Rattle.lists.specs.Part.{replaced};
 ghost use Rattle.decode_between.specs.Between.{valuesBetween, foldedAt, folded};
 ghost use Rattle.decode_between.specs.Foldable.{Foldable};
 

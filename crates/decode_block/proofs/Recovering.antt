@@ -22,7 +22,7 @@ use Rattle.answers.proofs.Leaves.{zeroed-all}
 use Rattle.field.proofs.Ring.{product-lt}
 use Rattle.limits.proofs.Shape.{shape-good, longest-le}
 use Rattle.field.proofs.Sizes.{size-enough, size-small}
-use Rattle.poly.proofs.Tab.{tab-at}
+use Rattle.lists.proofs.Tab.{tab-at}
 use Rattle.code.specs.Decoded.{decoded}
 use Rattle.code.specs.Decoding.{decodeOf}
 use Rattle.code.specs.Held.{Held}
@@ -30,7 +30,7 @@ use Rattle.code.specs.Meeting.{messageOf}
 use Rattle.code.specs.Positions.{Inside}
 use Rattle.code.specs.Decodable.{Decodable}
 use Rattle.code.specs.Repeats.{Apart}
-use Rattle.code.specs.Rooms.{decodeRoom}
+use Rattle.code.specs.Rooms.{decodeWork}
 use Rattle.code.proofs.Meeting.{message-is}
 use Rattle.decode_between.specs.Foldable.{Foldable}
 use Rattle.decode_between.proofs.Foldable.{room-of, table-kept}
@@ -45,17 +45,17 @@ use Rattle.decode_missing.proofs.Unmarked.{unmarked-zero}
 use Rattle.decode_prepare.specs.Prepared.{Prepared}
 use Rattle.decode_block.specs.Multiplied.{Multiplied}
 
-pub cells-enough : (k n : ℕ) (h : Held) → Decodable k n h → (cells : List ℕ) → length cells ≡ decodeRoom n → k ≤ length cells
-unfolding decodeRoom
+pub cells-enough : (k n : ℕ) (h : Held) → Decodable k n h → (cells : List ℕ) → length cells ≡ decodeWork n → k ≤ length cells
+unfolding decodeWork
 cells-enough k n h able cells long =
     let good = shape-good k n (able .shape) in
     omega (arith, good .1, size-enough n (le-trans (good .2) longest-le), long)
 
 -- The search for the message. N is what the call gives, mk the marks, e the values multiplied in
 
-module _ (k n : ℕ) (h : Held) (able : Decodable k n h) (d : List ℕ) (long : length d ≡ decodeRoom n) (N : ℕ) (N-is : N ≡ sizeOf n) where
+module _ (k n : ℕ) (h : Held) (able : Decodable k n h) (d : List ℕ) (long : length d ≡ decodeWork n) (N : ℕ) (N-is : N ≡ sizeOf n) where
   long-N : length d ≡ 4 * N
-  unfolding decodeRoom
+  unfolding decodeWork
   long-N = long ∙ ap (4 *_) (sym N-is)
 
   pub in-range : (N ≤ 65536) × (3 * N ≤ length d)
@@ -196,9 +196,9 @@ module _ (k n : ℕ) (h : Held) (able : Decodable k n h) (d : List ℕ) (long : 
 
 -- What is left: s is what the cells hold when the message is sought, cleared what they hold at the end
 
-module _ (k n : ℕ) (h : Held) (out cells s cleared : List ℕ) (long : length cells ≡ decodeRoom n) (same : length s ≡ length cells) (clear : cleared ≡ replicate (length s) 0) where
-  all-zero : cleared ≡ zeroed (decodeRoom n) cells
-  all-zero = clear ∙ ap (λ (m : ℕ). replicate m 0) (same ∙ long) ∙ sym (zeroed-all (decodeRoom n) cells long)
+module _ (k n : ℕ) (h : Held) (out cells s cleared : List ℕ) (long : length cells ≡ decodeWork n) (same : length s ≡ length cells) (clear : cleared ≡ replicate (length s) 0) where
+  all-zero : cleared ≡ zeroed (decodeWork n) cells
+  all-zero = clear ∙ ap (λ (m : ℕ). replicate m 0) (same ∙ long) ∙ sym (zeroed-all (decodeWork n) cells long)
 
   pub recovered : (b : Bool) (o : List ℕ) → decodeOf k n h ≡ cond b (some (messageOf (take k s))) none → b ≡ true
       → o ≡ written (take (k - 0) s) out → leaving (result []) o cleared ≡ decoded (decodeOf k n h) n out cells

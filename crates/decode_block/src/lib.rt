@@ -22,7 +22,7 @@ ghost use Rattle.code.specs.Meeting.{messageOf};
 ghost use Rattle.code.specs.Positions.{Inside};
 ghost use Rattle.code.specs.Decodable.{Decodable};
 ghost use Rattle.code.specs.Repeats.{Apart};
-ghost use Rattle.code.specs.Rooms.{decodeRoom};
+ghost use Rattle.code.specs.Rooms.{decodeWork};
 ghost use Rattle.decode_missing.specs.Marks.{Marks};
 ghost use Rattle.decode_block.specs.Multiplied.{Multiplied};
 
@@ -56,7 +56,7 @@ fn multiply_in(positions: &[u32], values: &[u32], list: &mut [u32])
 
 // Whether a message fits, which then stands at the front of the stated working space.
 fn find_message(k: usize, n: usize, positions: &[u32], values: &[u32], cells: &mut [u32]) -> bool
-    requires { ⌜ Decodable k n (held (now positions) (now values)) × (length (now cells) ≡ decodeRoom n) ⌝ }
+    requires { ⌜ Decodable k n (held (now positions) (now values)) × (length (now cells) ≡ decodeWork n) ⌝ }
     ensures { λ r. ⌜ decodeOf k n (held (now (positions .entry)) (now (values .entry)))
         ≡ cond r (some (messageOf (take k (now (cells .exit))))) none ⌝ }
 {
@@ -77,7 +77,7 @@ pub fn recover(
     cells: &mut [u32],
 ) -> Outcome
     requires { ⌜ Decodable k n (held (now positions) (now values)) × (k ≤ length (now out))
-        × (length (now cells) ≡ decodeRoom n) ⌝ }
+        × (length (now cells) ≡ decodeWork n) ⌝ }
     ensures { λ r. ⌜ leaving (toldOutcome r) (now (out .exit)) (now (cells .exit))
         ≡ decoded (decodeOf k n (held (now (positions .entry)) (now (values .entry)))) n (now (out .entry)) (now (cells .entry)) ⌝ }
 {

@@ -20,16 +20,16 @@ use Rattle.field.proofs.Fermat.{inverse-≈}
 use Rattle.field.proofs.Ring.{product-lt, power-≈}
 use Rattle.field.proofs.Roots.{root-order, powers-distinct}
 use Rattle.poly.specs.Distinct.{Distinct}
-use Rattle.poly.specs.Every.{Every}
+use Rattle.lists.specs.Every.{Every}
 use Rattle.poly.specs.Products.{times, vanishing}
-use Rattle.poly.specs.Tab.{tab}
+use Rattle.lists.specs.Tab.{tab}
 use Rattle.poly.specs.Value.{value}
 use Rattle.poly.proofs.Counting.{unique}
 use Rattle.poly.proofs.Distinct.{distinct-tab}
-use Rattle.poly.proofs.Every.{every-map, every-tab}
+use Rattle.lists.proofs.Every.{every-map, every-tab}
 use Rattle.poly.proofs.Products.{times-length, product-value}
 use Rattle.poly.proofs.Symbols.{symbols-every, tab-symbols}
-use Rattle.poly.proofs.Tab.{tab-length, tab-at}
+use Rattle.lists.proofs.Tab.{tab-length, tab-at}
 use Rattle.poly.proofs.Values.{value-≈, value-append, value-zeros, value-front}
 use Rattle.transform_halving.specs.Transform.{sums}
 use Rattle.transform_halving.proofs.Round.{Opposite, round}

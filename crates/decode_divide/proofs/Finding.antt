@@ -17,14 +17,14 @@ use Rattle.field.specs.Symbol.{Symbols}
 use Rattle.field.proofs.Congruence.{≈-of, _∘≈_, _·≈_, comb, reduced}
 use Rattle.field.proofs.Ring.{product-≈, product-lt}
 use Rattle.poly.specs.Products.{times, vanishing}
-use Rattle.poly.specs.Tab.{tab}
+use Rattle.lists.specs.Tab.{tab}
 use Rattle.poly.specs.Value.{value}
-use Rattle.poly.proofs.Tab.{tab-length, tab-ext, tab-getD}
+use Rattle.lists.proofs.Tab.{tab-length, tab-ext, tab-getD}
 use Rattle.transform_halving.specs.Transform.{sums}
 use Rattle.transform_halving.proofs.Sums.{sums-length, sums-symbols}
-use Rattle.transform_table.specs.Part.{part, replaced}
+use Rattle.lists.specs.Part.{part, replaced}
 use Rattle.transform_table.specs.Turns.{Tabled}
-use Rattle.transform_table.proofs.Part.{replaced-length, replaced-part, replaced-behind}
+use Rattle.lists.proofs.Part.{replaced-length, replaced-part, replaced-behind}
 use Rattle.decode_between.specs.Foldable.{Foldable}
 use Rattle.decode_between.proofs.Foldable.{size-N, size-K, levels, table-kept}
 use Rattle.decode_between.proofs.Turning.{whole-tabled}

@@ -12,15 +12,15 @@ use Rattle.field.specs.Points.{rootOf}
 use Rattle.field.specs.Size.{sizeOf}
 use Rattle.field.specs.Symbol.{Symbols}
 use Rattle.field.proofs.Ring.{product-lt}
-use Rattle.poly.specs.Tab.{tab}
+use Rattle.lists.specs.Tab.{tab}
 use Rattle.poly.proofs.Symbols.{tab-symbols}
-use Rattle.poly.proofs.Tab.{tab-length, tab-ext}
+use Rattle.lists.proofs.Tab.{tab-length, tab-ext}
 use Rattle.transform_halving.specs.Transformable.{Transformable}
 use Rattle.transform_halving.specs.Transform.{sums}
 use Rattle.transform_halving.proofs.Sums.{sums-length, sums-symbols}
-use Rattle.transform_table.specs.Part.{part, replaced}
+use Rattle.lists.specs.Part.{part, replaced}
 use Rattle.transform_table.specs.Turns.{Tabled}
-use Rattle.transform_table.proofs.Part.{replaced-length, replaced-part, replaced-at, replaced-past, replaced-behind, replaced-twice}
+use Rattle.lists.proofs.Part.{replaced-length, replaced-part, replaced-at, replaced-past, replaced-behind, replaced-twice}
 use Rattle.decode_between.specs.Between.{psi, valuesBetween}
 use Rattle.decode_between.specs.Foldable.{PsiTable, Foldable}
 use Rattle.decode_between.proofs.Foldable.{K-some, table-kept}

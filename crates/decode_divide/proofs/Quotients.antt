@@ -9,12 +9,12 @@ use Rattle.field.specs.Congruence.{_≈_}
 use Rattle.field.proofs.Congruence.{≈-of, ≈-sym, _+≈_, _·≈_, comb}
 use Rattle.poly.specs.Distinct.{Distinct}
 use Rattle.poly.specs.Division.{quotient}
-use Rattle.poly.specs.Every.{Every}
+use Rattle.lists.specs.Every.{Every}
 use Rattle.poly.specs.Products.{times, vanishing}
 use Rattle.poly.specs.Value.{value}
 use Rattle.poly.proofs.Counting.{quotient-root}
 use Rattle.poly.proofs.Division.{quotient-length, divided}
-use Rattle.poly.proofs.Every.{every-map, every-both}
+use Rattle.lists.proofs.Every.{every-map, every-both}
 use Rattle.poly.proofs.Products.{times-value}
 
 -- s is f divided by the product over zs, and has c coefficients

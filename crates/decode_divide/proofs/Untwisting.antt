@@ -16,10 +16,10 @@ use Rattle.field.proofs.Fermat.{inverse-≈}
 use Rattle.field.proofs.Powers.{mul-pow}
 use Rattle.field.proofs.Ring.{product-≈, difference-≈, difference-lt, power-≈}
 use Rattle.poly.specs.Products.{vanishing}
-use Rattle.poly.specs.Tab.{tab}
+use Rattle.lists.specs.Tab.{tab}
 use Rattle.poly.specs.Value.{value}
 use Rattle.poly.proofs.Sum.{total-≈, total-ext, total-scale}
-use Rattle.poly.proofs.Tab.{tab-length, tab-at, tab-ext, tab-getD}
+use Rattle.lists.proofs.Tab.{tab-length, tab-at, tab-ext, tab-getD}
 use Rattle.poly.proofs.Values.{value-tab, longer-sum}
 use Rattle.transform_halving.specs.Transform.{sums}
 use Rattle.transform_halving.proofs.Round.{Opposite, round}

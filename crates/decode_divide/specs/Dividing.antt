@@ -9,7 +9,7 @@ use Rattle.field.specs.Field.{product}
 use Rattle.field.specs.Points.{pointOf}
 use Rattle.field.specs.Symbol.{Symbols}
 use Rattle.poly.specs.Distinct.{Distinct}
-use Rattle.poly.specs.Every.{Every}
+use Rattle.lists.specs.Every.{Every}
 use Rattle.poly.specs.Products.{vanishing}
 use Rattle.poly.specs.Value.{value}
 

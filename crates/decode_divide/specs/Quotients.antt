@@ -6,10 +6,10 @@ use Rattle.field.specs.Congruence.{_≈_}
 use Rattle.field.specs.Field.{difference, product, power, inverse}
 use Rattle.field.specs.Points.{rootOf}
 use Rattle.poly.specs.Products.{vanishing}
-use Rattle.poly.specs.Tab.{tab}
+use Rattle.lists.specs.Tab.{tab}
 use Rattle.poly.specs.Value.{value}
 use Rattle.transform_halving.specs.Transform.{sums}
-use Rattle.transform_table.specs.Part.{replaced}
+use Rattle.lists.specs.Part.{replaced}
 use Rattle.decode_between.specs.Between.{psi, between, valuesBetween}
 
 -- 1 / (N·K·M(y_i)), for the K points y_i between those of the code word

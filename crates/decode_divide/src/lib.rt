@@ -15,7 +15,7 @@ ghost use Prim.Native.Nat.{ℕ, _+_, _*_, _<_, _≤_};
 ghost use lib.ListN.{length, getD, take, drop};
 ghost use Rattle.limits.specs.Shape.{badShape};
 ghost use Rattle.field.specs.Size.{sizeOf};
-ghost use Rattle.poly.specs.Tab.{tab};
+ghost use Rattle.lists.specs.Tab.{tab};
 ghost use Rattle.decode_between.specs.Foldable.{PsiTable, Foldable};
 ghost use Rattle.decode_divide.specs.Dividing.{ZeroAt, Divided};
 ghost use Rattle.decode_divide.specs.Quotients.{InversesBetween, withQuotients, untwisted, quotientIn};

@@ -20,11 +20,11 @@ use Rattle.field.proofs.Ring.{product-≈}
 use Rattle.limits.proofs.Shape.{shape-good, longest-le}
 use Rattle.field.proofs.Sizes.{size-power, size-enough}
 use Rattle.poly.specs.Distinct.{Distinct}
-use Rattle.poly.specs.Every.{Every}
+use Rattle.lists.specs.Every.{Every}
 use Rattle.poly.specs.Products.{vanishing}
 use Rattle.poly.specs.Value.{value}
-use Rattle.poly.proofs.Every.{every-map, every-append, every-tab}
-use Rattle.poly.proofs.Tab.{tab-at}
+use Rattle.lists.proofs.Every.{every-map, every-append, every-tab}
+use Rattle.lists.proofs.Tab.{tab-at}
 use Rattle.code.specs.Code.{symbolOf}
 use Rattle.code.specs.Decoding.{pointsOf, decodeOf}
 use Rattle.code.specs.Fits.{Fits}

@@ -22,11 +22,11 @@ use Rattle.field.proofs.Ring.{power-≈}
 use Rattle.field.proofs.Roots.{root-full}
 use Rattle.field.proofs.Sizes.{level-le, level-size, size-power}
 use Rattle.poly.specs.Distinct.{Distinct}
-use Rattle.poly.specs.Every.{Every}
+use Rattle.lists.specs.Every.{Every}
 use Rattle.poly.specs.Products.{vanishing}
 use Rattle.poly.specs.Value.{value}
 use Rattle.poly.proofs.Counting.{vanishing-is-zero}
-use Rattle.poly.proofs.Every.{every-map, every-append}
+use Rattle.lists.proofs.Every.{every-map, every-append}
 use Rattle.poly.proofs.Products.{times-value, vanishing-apart}
 use Rattle.poly.proofs.Values.{value-append, value-zeros}
 use Rattle.code.proofs.Points.{point-one}

@@ -7,7 +7,7 @@ use lib.ListN.{length, getD}
 use Rattle.field.specs.Field.{product}
 use Rattle.field.specs.Points.{pointOf}
 use Rattle.poly.specs.Products.{vanishing}
-use Rattle.poly.specs.Tab.{tab}
+use Rattle.lists.specs.Tab.{tab}
 use Rattle.poly.specs.Value.{value}
 use Rattle.code.specs.Held.{Held, heldCount}
 use Rattle.decode_missing.specs.Missing.{missingPoints}

@@ -19,19 +19,19 @@ use Rattle.field.proofs.Fermat.{inverse-≈, no-divisors}
 use Rattle.field.proofs.Ring.{product-≈, power-≈, power-lt}
 use Rattle.limits.proofs.Shape.{shape-good, size-le, level-twice}
 use Rattle.field.proofs.Sizes.{size-size}
-use Rattle.poly.specs.Every.{Every}
+use Rattle.lists.specs.Every.{Every}
 use Rattle.poly.specs.Products.{times, vanishing}
-use Rattle.poly.specs.Tab.{tab}
+use Rattle.lists.specs.Tab.{tab}
 use Rattle.poly.specs.Value.{value}
-use Rattle.poly.proofs.Every.{every-map}
+use Rattle.lists.proofs.Every.{every-map}
 use Rattle.poly.proofs.Products.{vanishing-symbols}
 use Rattle.poly.proofs.Symbols.{symbols-at, append-symbols}
-use Rattle.poly.proofs.Tab.{tab-length, tab-at, tab-ext}
+use Rattle.lists.proofs.Tab.{tab-length, tab-at, tab-ext}
 use Rattle.poly.proofs.Values.{value-≈, value-append, value-zeros}
 use Rattle.transform_halving.specs.Transform.{transformOf}
 use Rattle.transform_halving.proofs.Sums.{values}
 use Rattle.transform_halving.proofs.Undo.{transform-values}
-use Rattle.transform_table.specs.Part.{part}
+use Rattle.lists.specs.Part.{part}
 use Rattle.decode_between.specs.Between.{psi, between, valuesBetween}
 use Rattle.decode_between.specs.Foldable.{PsiTable, Foldable}
 use Rattle.decode_between.proofs.Between.{between-apart}

@@ -13,15 +13,15 @@ use Rattle.field.specs.Field.{difference, product}
 use Rattle.field.specs.Size.{levelOf, sizeOf}
 use Rattle.field.specs.Symbol.{Symbols}
 use Rattle.field.proofs.Sizes.{size-power, size-enough, size-least, size-of-power, level-least, size-small}
-use Rattle.poly.specs.Every.{Every}
+use Rattle.lists.specs.Every.{Every}
 use Rattle.poly.specs.Products.{times, vanishing}
 use Rattle.poly.specs.Raised.{raised}
-use Rattle.poly.specs.Tab.{tab}
+use Rattle.lists.specs.Tab.{tab}
 use Rattle.poly.proofs.Products.{vanishing-length, vanishing-symbols}
 use Rattle.poly.proofs.Symbols.{append-symbols}
-use Rattle.poly.proofs.Tab.{tab-ext, tab-getD}
-use Rattle.transform_table.specs.Part.{part, replaced}
-use Rattle.transform_table.proofs.Part.{part-length, part-join, replaced-length, replaced-at, replaced-behind, returned-part}
+use Rattle.lists.proofs.Tab.{tab-ext, tab-getD}
+use Rattle.lists.specs.Part.{part, replaced}
+use Rattle.lists.proofs.Part.{part-length, part-join, replaced-length, replaced-at, replaced-behind, returned-part}
 use Rattle.decode_product.specs.Factors.{lowersOf}
 use Rattle.decode_product.proofs.Lowers.{lowers-whole, lowers-length}
 

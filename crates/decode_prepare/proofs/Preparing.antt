@@ -9,9 +9,9 @@ use lib.ListN.{length, getD, take, drop, replicate, length-append, length-drop, 
 use lib.Seq.{length-take-le, take-at, drop-at, take-append-le, drop-append-add, drop-drop, getD-take, getD-drop, ext-getD}
 use Rattle.field.specs.Field.{power}
 use Rattle.field.specs.Size.{sizeOf}
-use Rattle.poly.specs.Tab.{tab}
-use Rattle.poly.proofs.Tab.{tab-length}
-use Rattle.transform_table.specs.Part.{part}
+use Rattle.lists.specs.Tab.{tab}
+use Rattle.lists.proofs.Tab.{tab-length}
+use Rattle.lists.specs.Part.{part}
 use Rattle.decode_between.specs.Between.{psi}
 use Rattle.decode_missing.specs.Missing.{missingPoints}
 use Rattle.decode_missing.proofs.Laying.{unmarked-le}

@@ -9,13 +9,13 @@ use lib.ListN.{length, getD, take, drop}
 use lib.Seq.{length-take-le}
 use Rattle.field.specs.Field.{product, inverse}
 use Rattle.field.specs.Symbol.{Symbols}
-use Rattle.poly.specs.Tab.{tab}
-use Rattle.poly.proofs.Tab.{tab-length, tab-ext}
+use Rattle.lists.specs.Tab.{tab}
+use Rattle.lists.proofs.Tab.{tab-length, tab-ext}
 use Rattle.transform_halving.specs.Transform.{transformOf}
 use Rattle.transform_halving.proofs.Undo.{transform-length}
-use Rattle.transform_table.specs.Part.{part, replaced}
+use Rattle.lists.specs.Part.{part, replaced}
 use Rattle.transform_table.specs.Turns.{Tabled}
-use Rattle.transform_table.proofs.Part.{replaced-front, replaced-length, replaced-part, replaced-at, replaced-behind}
+use Rattle.lists.proofs.Part.{replaced-front, replaced-length, replaced-part, replaced-at, replaced-behind}
 use Rattle.decode_between.specs.Between.{valuesBetween}
 use Rattle.decode_between.specs.Foldable.{Foldable}
 use Rattle.decode_between.proofs.Foldable.{N-small, table-kept}

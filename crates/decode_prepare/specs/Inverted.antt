@@ -2,7 +2,7 @@
 use mathlib.Core.List.{List}
 use Prim.Native.Nat.{ℕ}
 use Rattle.field.specs.Field.{product, inverse}
-use Rattle.poly.specs.Tab.{tab}
+use Rattle.lists.specs.Tab.{tab}
 
 abbrev pub inversesOf : ℕ → ℕ → (ℕ → ℕ) → List ℕ
 inversesOf N K value = tab K (λ i. inverse (product (product N K) (value i)))

@@ -1,5 +1,5 @@
-// The coefficients of M, the product of X - z over the missing points z, in the first N of 4N cells. No entry points and for this crate alone: `prepare` has laid
-// the points.
+// The coefficients of M, the product of X - z over the missing points z, in the first N of 4N cells. No entry points and for this crate alone:
+// `prepare` has laid the points.
 use cells::clear;
 use decode_product::multiply_out;
 ghost use mathlib.Core.Path.{_≡_};
@@ -9,8 +9,8 @@ ghost use lib.ListN.{length, getD, take, drop, replicate};
 ghost use Rattle.field.specs.Size.{levelOf, sizeOf};
 ghost use Rattle.field.specs.Symbol.{Symbols};
 ghost use Rattle.poly.specs.Products.{vanishing};
-ghost use Rattle.poly.specs.Tab.{tab};
-ghost use Rattle.transform_table.specs.Part.{part};
+ghost use Rattle.lists.specs.Tab.{tab};
+ghost use Rattle.lists.specs.Part.{part};
 
 // Numbers from a place on, to the front.
 fn bring(from: usize, count: usize, cells: &mut [u32])

@@ -8,14 +8,14 @@ use lib.ListN.{length, getD, take, drop, set, length-drop, take-append-drop}
 use lib.Seq.{length-take-le, take-at, drop-at, take-all, take-add}
 use Rattle.field.specs.Size.{sizeOf}
 use Rattle.field.specs.Symbol.{Symbols}
-use Rattle.poly.specs.Tab.{tab}
-use Rattle.poly.proofs.Tab.{tab-length, tab-ext, tab-append}
-use Rattle.poly.proofs.Window.{window, window-none, window-length, window-store, window-set-before, window-before, window-past, window-at, window-end}
+use Rattle.lists.specs.Tab.{tab}
+use Rattle.lists.proofs.Tab.{tab-length, tab-ext, tab-append}
+use Rattle.lists.proofs.Window.{window, window-none, window-length, window-store, window-set-before, window-before, window-past, window-at, window-end}
 use Rattle.decode_product.specs.Factors.{coefficient, monicTimes}
-use Rattle.decode_product.specs.Halves.{TwoFactors, firstFactor, secondFactor, repeated}
+use Rattle.decode_product.specs.Halves.{TwoFactors, firstFactor, secondFactor, copiedWithin}
 use Rattle.decode_product.proofs.Quarters.{Quarters, quarters, first-factor-length, second-factor-length}
-use Rattle.decode_product.proofs.Repeating.{part-tab, repeated-before, repeated-there, repeated-past}
-use Rattle.decode_product.proofs.Times.{times-length}
+use Rattle.decode_product.proofs.Copying.{part-tab, copied-before, copied-there, copied-past}
+use Rattle.decode_product.proofs.Times.{monic-times-length}
 
 -- a part of two lists that have the same numbers there
 same-part : (at n : ℕ) (s t : List ℕ) → at + n ≤ length s → at + n ≤ length t → ((j : ℕ) → j < n → getD s (at + j) 0 ≡ getD t (at + j) 0)
@@ -134,22 +134,22 @@ module _ (d : List ℕ) where
     pub gathered : (e s t : List ℕ) → length e ≡ length d
         → (take (length d / 4) (drop (length d / 4) e) ≡ take (length d / 4) (monicTimes (firstFactor d) (secondFactor d)))
         × (drop (length d / 4 * 3) e ≡ drop (length d / 4) (monicTimes (firstFactor d) (secondFactor d)))
-        → s ≡ repeated (length d / 4) 0 (length d / 4) e → length s ≡ length e
-        → t ≡ repeated (length d / 4 * 3) (length d / 4) (length d / 4) s
+        → s ≡ copiedWithin (length d / 4) 0 (length d / 4) e → length s ≡ length e
+        → t ≡ copiedWithin (length d / 4 * 3) (length d / 4) (length d / 4) s
         → take (length d / 2) t ≡ monicTimes (firstFactor d) (secondFactor d)
     gathered e s t long filled once long' twice =
         ap (λ (n : ℕ). take n t) {x = length d / 2} {y = q + q} (omega (arith, whole))
         ∙ take-add q q t
         ∙ ap₂ _++_
         (ap (take q) twice
-        ∙ repeated-before (q * 3) q q s (omega (arith, whole)) (omega (arith, whole)) q (omega arith)
+        ∙ copied-before (q * 3) q q s (omega (arith, whole)) (omega (arith, whole)) q (omega arith)
         ∙ ap (take q) once
-        ∙ repeated-there q 0 q e (omega (arith, whole)) (omega (arith, whole))
+        ∙ copied-there q 0 q e (omega (arith, whole)) (omega (arith, whole))
         ∙ filled .0)
         (ap (λ (l : List ℕ). take q (drop q l)) twice
-        ∙ repeated-there (q * 3) q q s (omega (arith, whole)) (omega (arith, whole))
-        ∙ ap (take q) (ap (drop (q * 3)) once ∙ repeated-past q 0 q e (omega (arith, whole)) (omega (arith, whole)) (q * 3) (omega arith) ∙ filled .1)
-        ∙ take-all q (drop q product) (omega (arith, length-drop q product, times-length (firstFactor d) (secondFactor d), first-factor-length d two, second-factor-length d two)))
+        ∙ copied-there (q * 3) q q s (omega (arith, whole)) (omega (arith, whole))
+        ∙ ap (take q) (ap (drop (q * 3)) once ∙ copied-past q 0 q e (omega (arith, whole)) (omega (arith, whole)) (q * 3) (omega arith) ∙ filled .1)
+        ∙ take-all q (drop q product) (omega (arith, length-drop q product, monic-times-length (firstFactor d) (secondFactor d), first-factor-length d two, second-factor-length d two)))
         ∙ take-append-drop q product
       where
         q : ℕ

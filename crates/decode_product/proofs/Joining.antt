@@ -10,11 +10,11 @@ use Rattle.field.specs.Size.{sizeOf}
 use Rattle.field.specs.Symbol.{Symbols}
 use Rattle.poly.proofs.Symbols.{symbols-at}
 use Rattle.decode_product.specs.Factors.{lowersOf, monicTimes}
-use Rattle.decode_product.specs.Halves.{SymbolsInFront, TwoFactors, firstFactor, secondFactor, repeated}
+use Rattle.decode_product.specs.Halves.{SymbolsInFront, TwoFactors, firstFactor, secondFactor, copiedWithin}
 use Rattle.decode_product.proofs.Lending.{first, second, after, first-length, first-front, second-length, second-front, after-is, after-length}
 use Rattle.decode_product.proofs.Lowers.{lowers-symbols, lowers-append}
 use Rattle.decode_product.proofs.Quarters.{Quarters, quarters-of, first-factor-length, second-factor-length}
-use Rattle.decode_product.proofs.Repeating.{repeated-before, repeated-there}
+use Rattle.decode_product.proofs.Copying.{copied-before, copied-there}
 
 -- a point is a symbol
 point-small : (d : List ℕ) → SymbolsInFront d → (i : ℕ) → i < length d / 2 → getD d i 0 < 65537
@@ -23,7 +23,7 @@ point-small d good i h =
 
 -- e is d with the second half of the points at the front of the second half of the cells
 
-module _ (d : List ℕ) (good : SymbolsInFront d) (many : 4 ≤ length d) (e : List ℕ) (kept : length e ≡ length d) (spread : e ≡ repeated (length d / 4) (length d / 4 * 2) (length d / 4) d) where
+module _ (d : List ℕ) (good : SymbolsInFront d) (many : 4 ≤ length d) (e : List ℕ) (kept : length e ≡ length d) (spread : e ≡ copiedWithin (length d / 4) (length d / 4 * 2) (length d / 4) d) where
   q : Quarters d
   q = quarters-of d (good .0) many
 
@@ -31,14 +31,14 @@ module _ (d : List ℕ) (good : SymbolsInFront d) (many : 4 ≤ length d) (e : L
   in-front =
       ap (λ (n : ℕ). take (n / 4) e) kept
       ∙ ap (take (length d / 4)) spread
-      ∙ repeated-before (length d / 4) (length d / 4 * 2) (length d / 4) d (omega arith) (omega arith) (length d / 4) (omega arith)
+      ∙ copied-before (length d / 4) (length d / 4 * 2) (length d / 4) d (omega arith) (omega arith) (length d / 4) (omega arith)
 
   behind : secondFactor e ≡ take (length d / 4) (drop (length d / 4) d)
   behind =
       ap (λ (n : ℕ). take (n / 4) (drop (n / 2) e)) kept
       ∙ ap (λ (n : ℕ). take (length d / 4) (drop n e)) {x = length d / 2} {y = length d / 4 * 2} (omega (arith, q .half, q .quarter))
       ∙ ap (λ (l : List ℕ). take (length d / 4) (drop (length d / 4 * 2) l)) spread
-      ∙ repeated-there (length d / 4) (length d / 4 * 2) (length d / 4) d (omega arith) (omega arith)
+      ∙ copied-there (length d / 4) (length d / 4 * 2) (length d / 4) d (omega arith) (omega arith)
 
   -- the points are those at the fronts of the halves
   points-are : take (length d / 2) d ≡ firstFactor e ++ secondFactor e

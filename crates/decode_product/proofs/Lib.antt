@@ -1,7 +1,7 @@
 pub mod Times
 pub mod Lowers
 pub mod Quarters
-pub mod Repeating
+pub mod Copying
 pub mod Stepping
 pub mod Runs
 pub mod Filling

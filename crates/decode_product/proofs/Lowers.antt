@@ -10,14 +10,14 @@ use lib.Seq.{length-take-le}
 use Rattle.field.specs.Congruence.{_≈_}
 use Rattle.field.proofs.Congruence.{≈-of, _∘≈_, reduced}
 use Rattle.poly.specs.Distinct.{Distinct}
-use Rattle.poly.specs.Every.{Every}
+use Rattle.lists.specs.Every.{Every}
 use Rattle.poly.specs.Products.{vanishing}
-use Rattle.poly.specs.Tab.{tab}
+use Rattle.lists.specs.Tab.{tab}
 use Rattle.poly.specs.Value.{value}
 use Rattle.poly.proofs.Distinct.{distinct-tab}
-use Rattle.poly.proofs.Every.{every-left, every-tab}
+use Rattle.lists.proofs.Every.{every-left, every-tab}
 use Rattle.poly.proofs.Products.{vanishing-append, vanishing-length, vanishing-symbols, vanishing-last, product-value}
-use Rattle.poly.proofs.Tab.{tab-length, with-last}
+use Rattle.lists.proofs.Tab.{tab-length, with-last}
 use Rattle.poly.proofs.Values.{value-append}
 use Rattle.decode_product.specs.Factors.{lowersOf, monicTimes}
 use Rattle.decode_product.proofs.Times.{times-determined}

@@ -10,9 +10,9 @@ use lib.ListN.{length, take, drop, set, replicate, length-append, length-replica
 use lib.Seq.{length-take-le, set-at, take-all}
 use Rattle.field.specs.Size.{sizeOf}
 use Rattle.field.specs.Symbol.{Symbols}
-use Rattle.poly.specs.Every.{Every}
+use Rattle.lists.specs.Every.{Every}
 use Rattle.poly.specs.Value.{value}
-use Rattle.poly.proofs.Every.{every-replicate}
+use Rattle.lists.proofs.Every.{every-replicate}
 use Rattle.poly.proofs.Symbols.{append-symbols, symbols-at}
 use Rattle.poly.proofs.Values.{value-append, value-zeros}
 use Rattle.transform_halving.specs.Transformable.{Transformable}

@@ -12,10 +12,10 @@ use Rattle.poly.specs.Raised.{raised}
 use Rattle.poly.proofs.Products.{vanishing-length, vanishing-symbols}
 use Rattle.poly.proofs.Symbols.{symbols-at}
 use Rattle.decode_product.specs.Factors.{lowersOf}
-use Rattle.decode_product.specs.Halves.{SymbolsInFront, repeated}
+use Rattle.decode_product.specs.Halves.{SymbolsInFront, copiedWithin}
 use Rattle.decode_product.proofs.Lowers.{lowers-whole}
 use Rattle.decode_product.proofs.Quarters.{even-of}
-use Rattle.decode_product.proofs.Repeating.{repeated-there}
+use Rattle.decode_product.proofs.Copying.{copied-there}
 
 lowers-none : lowersOf [] ≡ []
 unfolding lowersOf
@@ -133,11 +133,11 @@ module _ (d : List ℕ) (good : SymbolsInFront d) (left : ℕ) (e : List ℕ) (t
                 ∙ stepped-lowers;
           }
 
-  pub stepped-all : left ≤ 0 → (s : List ℕ) → s ≡ repeated (length d / 2) 0 (length d / 2) e → take (length d / 2) s ≡ lowersOf (take (length d / 2) d)
+  pub stepped-all : left ≤ 0 → (s : List ℕ) → s ≡ copiedWithin (length d / 2) 0 (length d / 2) e → take (length d / 2) s ≡ lowersOf (take (length d / 2) d)
   unfolding half points
   stepped-all none s is =
       ap (take half) is
-      ∙ repeated-there half 0 half e (omega (arith, even)) (omega (arith, even))
+      ∙ copied-there half 0 half e (omega (arith, even)) (omega (arith, even))
       ∙ ap (λ (n : ℕ). take n (drop half e)) {x = half} {y = half - left} (omega arith)
       ∙ t .done
       ∙ ap (λ (n : ℕ). lowersOf (drop n points)) {x = left} {y = 0} (omega arith)

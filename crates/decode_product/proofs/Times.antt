@@ -11,14 +11,14 @@ use lib.ListN.{length, getD, replicate, length-append, length-replicate}
 use Rattle.field.specs.Congruence.{_≈_}
 use Rattle.field.proofs.Congruence.{≈-refl, ≈-of, ≈-sym, _∘≈_, _+≈_, _·≈_, mod-≈, comb}
 use Rattle.poly.specs.Distinct.{Distinct}
-use Rattle.poly.specs.Every.{Every}
+use Rattle.lists.specs.Every.{Every}
 use Rattle.poly.specs.Sum.{total}
-use Rattle.poly.specs.Tab.{tab}
+use Rattle.lists.specs.Tab.{tab}
 use Rattle.poly.specs.Value.{value}
 use Rattle.poly.proofs.Counting.{unique}
-use Rattle.poly.proofs.Every.{every-map, every-tab}
+use Rattle.lists.proofs.Every.{every-map, every-tab}
 use Rattle.poly.proofs.Sum.{total-ext, total-zero}
-use Rattle.poly.proofs.Tab.{tab-length, tab-ext}
+use Rattle.lists.proofs.Tab.{tab-length, tab-ext}
 use Rattle.poly.proofs.Values.{value-append, value-zeros}
 use Rattle.decode_product.specs.Factors.{crossed, coefficient, monicTimes}
 
@@ -88,9 +88,9 @@ crossed-value (y ∷ a) b n x h =
 
 -- The product of a + X^v and b + X^w, v and w being the lengths
 
-pub times-length : (a b : List ℕ) → length (monicTimes a b) ≡ length a + length b
+pub monic-times-length : (a b : List ℕ) → length (monicTimes a b) ≡ length a + length b
 unfolding monicTimes
-times-length a b = tab-length (length a + length b) (coefficient a b)
+monic-times-length a b = tab-length (length a + length b) (coefficient a b)
 
 times-symbols : (a b : List ℕ) → Every (_< 65537) (monicTimes a b)
 unfolding monicTimes coefficient
@@ -104,10 +104,10 @@ shifted-value n a w x h =
     ∙ value-append (replicate w 0) a x
     ∙ rw (value-zeros, length-replicate) (zero-add _)
 
-pub times-value : (a b : List ℕ) (x : ℕ)
+pub monic-times-value : (a b : List ℕ) (x : ℕ)
     → value (monicTimes a b) x + x ^ (length a + length b) ≈ (value a x + x ^ length a) * (value b x + x ^ length b)
 unfolding monicTimes coefficient
-times-value a b x =
+monic-times-value a b x =
     value-reduced n _ x +≈ ≈-refl
     ∘≈ ≈-of
     (omega (
@@ -127,5 +127,5 @@ times-value a b x =
 pub times-determined : (a b s xs : List ℕ) → length s ≡ length a + length b → length xs ≡ length s → Distinct xs → Every (_< 65537) s
     → Every (λ x. value s x + x ^ length s ≈ (value a x + x ^ length a) * (value b x + x ^ length b)) xs → s ≡ monicTimes a b
 times-determined a b s xs long many apart small same =
-    unique xs s (monicTimes a b) (sym many) (times-length a b ∙ sym long ∙ sym many) apart small (times-symbols a b)
-    (every-map (λ x h. comb (h +≈ ≈-sym (times-value a b x)) 0 0 (omega (arith, ap (x ^_) long))) xs same)
+    unique xs s (monicTimes a b) (sym many) (monic-times-length a b ∙ sym long ∙ sym many) apart small (times-symbols a b)
+    (every-map (λ x h. comb (h +≈ ≈-sym (monic-times-value a b x)) 0 0 (omega (arith, ap (x ^_) long))) xs same)

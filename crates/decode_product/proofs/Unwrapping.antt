@@ -8,8 +8,8 @@ use lib.Pow.{pow-pos}
 use lib.ListN.{length, getD, take, drop, set, length-set, List·getD-append}
 use lib.Seq.{length-take-le, length-front, take-at, take-set-lt, getD-append-add}
 use Rattle.field.specs.Field.{difference, product}
-use Rattle.poly.specs.Tab.{tab}
-use Rattle.poly.proofs.Tab.{tab-ext}
+use Rattle.lists.specs.Tab.{tab}
+use Rattle.lists.proofs.Tab.{tab-ext}
 use Rattle.transform_halving.specs.Transformable.{Transformable}
 use Rattle.transform_halving.specs.Transform.{transformOf, inverseOf}
 use Rattle.transform_halving.proofs.Theorems.{transform-symbols}

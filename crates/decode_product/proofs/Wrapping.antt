@@ -19,12 +19,12 @@ use Rattle.field.proofs.Ring.{difference-≈, difference-lt, product-≈, produ
 use Rattle.field.proofs.Roots.{root-order, root-full, powers-distinct}
 use Rattle.field.proofs.Sizes.{level-power}
 use Rattle.poly.specs.Distinct.{Distinct}
-use Rattle.poly.specs.Tab.{tab}
+use Rattle.lists.specs.Tab.{tab}
 use Rattle.poly.specs.Value.{value}
 use Rattle.poly.proofs.Distinct.{distinct-tab}
-use Rattle.poly.proofs.Every.{every-tab}
+use Rattle.lists.proofs.Every.{every-tab}
 use Rattle.poly.proofs.Symbols.{set-symbols, symbols-every, tab-symbols}
-use Rattle.poly.proofs.Tab.{tab-length, tab-at}
+use Rattle.lists.proofs.Tab.{tab-length, tab-at}
 use Rattle.transform_halving.specs.Transformable.{Transformable}
 use Rattle.transform_halving.specs.Transform.{transformOf, inverseOf}
 use Rattle.transform_halving.proofs.Transformable.{transformable-of}

@@ -6,7 +6,7 @@ use lib.ListN.{length, getD, take, replicate}
 use Rattle.field.specs.Field.{product}
 use Rattle.poly.specs.Products.{vanishing}
 use Rattle.poly.specs.Sum.{total}
-use Rattle.poly.specs.Tab.{tab}
+use Rattle.lists.specs.Tab.{tab}
 
 -- the coefficients of the product of X - z over zs below the highest
 unfoldable pub lowersOf : List ℕ → List ℕ

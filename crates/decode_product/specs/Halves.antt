@@ -1,4 +1,4 @@
--- What the inner functions ask of lent cells, and where in them two lists stand that are to be multiplied.
+-- What the functions of this crate ask of lent cells, and where in them two lists stand that are to be multiplied.
 use mathlib.Core.Path.{_≡_}
 use mathlib.Core.List.{List, _++_}
 use Prim.Native.Nat.{ℕ, _+_, _/_, _≤_}
@@ -24,5 +24,5 @@ pub record TwoFactors (d : List ℕ) : Type 0 where
   pub second : Symbols (secondFactor d)
 
 -- n numbers stand at another place too
-abbrev pub repeated : ℕ → ℕ → ℕ → List ℕ → List ℕ
-repeated from to n d = take to d ++ (take n (drop from d) ++ drop (to + n) d)
+abbrev pub copiedWithin : ℕ → ℕ → ℕ → List ℕ → List ℕ
+copiedWithin from to n d = take to d ++ (take n (drop from d) ++ drop (to + n) d)

@@ -5,7 +5,7 @@ mod singly;
 mod sums;
 mod transforms;
 
-use crate::moving::repeat;
+use crate::moving::copy_within;
 use crate::singly::multiply_few;
 ghost use mathlib.Core.Path.{_≡_};
 ghost use Prim.Native.Nat.{_/_};
@@ -42,7 +42,7 @@ pub fn multiply_out(cells: &mut [u32])
         return;
     }
     let quarter = cells.len() / 4;
-    repeat(cells, quarter, quarter * 2, quarter);
+    copy_within(cells, quarter, quarter * 2, quarter);
     let half = cells.len() / 2;
     multiply_out(&mut cells[0..half]);
     multiply_out(&mut cells[half..]);

@@ -1,5 +1,5 @@
 // A few points, multiplied out one factor at a time. No entry points and for this crate alone: its caller has tested how many there are.
-use crate::moving::repeat;
+use crate::moving::copy_within;
 use field::difference;
 use field::product;
 ghost use mathlib.Core.Path.{_≡_};
@@ -40,5 +40,5 @@ pub fn multiply_few(cells: &mut [u32])
         cells[end - 1] = 1;
         raise(&mut cells[half..end], x);
     }
-    repeat(cells, half, 0, half);
+    copy_within(cells, half, 0, half);
 }

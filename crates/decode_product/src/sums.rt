@@ -1,6 +1,6 @@
 // Two short products, multiplied by sums of products: a sum is reduced once. No entry points and for this crate alone: they ask for two lists in
 // the halves of the cells.
-use crate::moving::repeat;
+use crate::moving::copy_within;
 ghost use mathlib.Core.Path.{_≡_};
 ghost use Prim.Native.Nat.{_+_, _*_, _/_, _<_, _≤_};
 ghost use lib.ListN.{length, take, drop};
@@ -69,6 +69,6 @@ pub fn multiply(cells: &mut [u32])
 {
     let quarter = cells.len() / 4;
     fill(cells);
-    repeat(cells, quarter, 0, quarter);
-    repeat(cells, quarter * 3, quarter, quarter);
+    copy_within(cells, quarter, 0, quarter);
+    copy_within(cells, quarter * 3, quarter, quarter);
 }

@@ -68,6 +68,6 @@ PointsDistinct =
 
 -- Each promise settles the answer: two outcomes that meet it are equal
 
--- what an inner function promises of a symbol settles it too
+-- what a function of this crate promises of a symbol settles it too
 abbrev pub SymbolSettled : Type 0
 SymbolSettled = (v r s : ℕ) → IsSymbol r v → IsSymbol s v → r ≡ s

@@ -3,14 +3,14 @@
 use mathlib.Core.Path.{_≡_, sym, ap}
 use Prim.Native.Nat.{ℕ}
 use Rattle.answers.proofs.Refusals.{result-no-refusal, refusals-told}
-use Rattle.field_calls.specs.Operations.{told}
+use Rattle.field_calls.specs.Operations.{toldSymbol}
 use Rattle.field_calls.specs.Points.{toldPoint}
 use Rattle.field_calls.specs.declared.operations.SymbolAnswer.{SymbolAnswer}
 use Rattle.field_calls.specs.declared.operations.SymbolAnswer.the-variants.{Symbol, Refused}
 use Rattle.field_calls.specs.declared.points.PointAnswer.{PointAnswer}
 use Rattle.field_calls.specs.declared.points.PointAnswer.the-variants as P
 
-pub told-one : (r s : SymbolAnswer) → told r ≡ told s → r ≡ s
+pub told-one : (r s : SymbolAnswer) → toldSymbol r ≡ toldSymbol s → r ≡ s
 told-one (Symbol u) (Symbol v) e = cc
 told-one (Symbol u) (Refused y) e = absurd (result-no-refusal e)
 told-one (Refused x) (Symbol v) e = absurd (result-no-refusal (sym e))

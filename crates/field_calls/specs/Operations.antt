@@ -11,9 +11,9 @@ use Rattle.field_calls.specs.declared.operations.SymbolAnswer.the-varian
 use Rattle.answers.specs.declared.refusal.Refusal.the-variants.{Value}
 
 -- an answer of the code, on paper
-abbrev pub told : SymbolAnswer → Answer
-told (Symbol v) = result (v ∷ [])
-told (Refused x) = refused x
+abbrev pub toldSymbol : SymbolAnswer → Answer
+toldSymbol (Symbol v) = result (v ∷ [])
+toldSymbol (Refused x) = refused x
 
 abbrev pub sumAnswer : ℕ → ℕ → Answer
 sumAnswer a b = refuseAbove (a ∷ b ∷ []) (result (sum a b ∷ []))

@@ -3,14 +3,14 @@
 use mathlib.Core.Path.{_≡_}
 use Prim.Native.Nat.{ℕ}
 use Rattle.answers.specs.Refusals.{Answer}
-use Rattle.field_calls.specs.Operations.{told, sumAnswer, differenceAnswer, productAnswer, powerAnswer, inverseAnswer}
+use Rattle.field_calls.specs.Operations.{toldSymbol, sumAnswer, differenceAnswer, productAnswer, powerAnswer, inverseAnswer}
 use Rattle.field_calls.specs.Points.{toldPoint, pointAnswer}
 use Rattle.field_calls.specs.declared.operations.SymbolAnswer.{SymbolAnswer}
 use Rattle.field_calls.specs.declared.points.PointAnswer.{PointAnswer}
 
 -- two answers that tell the same are equal
 abbrev pub SymbolAnswerSettled : Answer → Type 0
-SymbolAnswerSettled t = (r s : SymbolAnswer) → told r ≡ t → told s ≡ t → r ≡ s
+SymbolAnswerSettled t = (r s : SymbolAnswer) → toldSymbol r ≡ t → toldSymbol s ≡ t → r ≡ s
 
 abbrev pub SumSettled : Type 0
 SumSettled = (a b : ℕ) → SymbolAnswerSettled (sumAnswer a b)

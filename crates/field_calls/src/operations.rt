@@ -4,7 +4,7 @@ ghost use mathlib.Core.Path.{_≡_};
 ghost use mathlib.Core.List.{[], _∷_};
 ghost use Rattle.answers.specs.Refusals.{refused};
 ghost use Rattle.limits.specs.Values.{firstAbove};
-ghost use Rattle.field_calls.specs.Operations.{told, sumAnswer, differenceAnswer, productAnswer, powerAnswer, inverseAnswer};
+ghost use Rattle.field_calls.specs.Operations.{toldSymbol, sumAnswer, differenceAnswer, productAnswer, powerAnswer, inverseAnswer};
 
 pub enum SymbolAnswer {
     Symbol(u32),
@@ -13,7 +13,7 @@ pub enum SymbolAnswer {
 
 // The refusal of the operand at an index.
 fn refuse(index: usize) -> SymbolAnswer
-    ensures { λ r. ⌜ told r ≡ refused (Refusal.Value index) ⌝ }
+    ensures { λ r. ⌜ toldSymbol r ≡ refused (Refusal.Value index) ⌝ }
 {
     SymbolAnswer::Refused(Refusal::Value(index))
 }
@@ -27,7 +27,7 @@ fn first_operand_above(a: u32, b: u32) -> usize
 }
 
 pub fn sum(a: u32, b: u32) -> SymbolAnswer
-    ensures { λ r. ⌜ told r ≡ sumAnswer a b ⌝ }
+    ensures { λ r. ⌜ toldSymbol r ≡ sumAnswer a b ⌝ }
 {
     let above = first_operand_above(a, b);
     if above < 2 {
@@ -37,7 +37,7 @@ pub fn sum(a: u32, b: u32) -> SymbolAnswer
 }
 
 pub fn difference(a: u32, b: u32) -> SymbolAnswer
-    ensures { λ r. ⌜ told r ≡ differenceAnswer a b ⌝ }
+    ensures { λ r. ⌜ toldSymbol r ≡ differenceAnswer a b ⌝ }
 {
     let above = first_operand_above(a, b);
     if above < 2 {
@@ -47,7 +47,7 @@ pub fn difference(a: u32, b: u32) -> SymbolAnswer
 }
 
 pub fn product(a: u32, b: u32) -> SymbolAnswer
-    ensures { λ r. ⌜ told r ≡ productAnswer a b ⌝ }
+    ensures { λ r. ⌜ toldSymbol r ≡ productAnswer a b ⌝ }
 {
     let above = first_operand_above(a, b);
     if above < 2 {
@@ -58,7 +58,7 @@ pub fn product(a: u32, b: u32) -> SymbolAnswer
 
 // The exponent is an operand like the base: x to the power 65536 is 1 or 0, so larger ones give nothing new.
 pub fn power(x: u32, exponent: u32) -> SymbolAnswer
-    ensures { λ r. ⌜ told r ≡ powerAnswer x exponent ⌝ }
+    ensures { λ r. ⌜ toldSymbol r ≡ powerAnswer x exponent ⌝ }
 {
     let above = first_operand_above(x, exponent);
     if above < 2 {
@@ -69,7 +69,7 @@ pub fn power(x: u32, exponent: u32) -> SymbolAnswer
 
 // Zero has no inverse.
 pub fn inverse(x: u32) -> SymbolAnswer
-    ensures { λ r. ⌜ told r ≡ inverseAnswer x ⌝ }
+    ensures { λ r. ⌜ toldSymbol r ≡ inverseAnswer x ⌝ }
 {
     if 65536 < x {
         return refuse(0);

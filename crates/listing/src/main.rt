@@ -1,5 +1,5 @@
-// Lists the bundle that comes on standard input. All that is decided stands in `listing_text`; here bytes are read and written. Reads and writes go by
-// parts of the buffers themselves, because the program may take 65,536 bytes in all and a copy would add to its stack.
+// Lists the bundle that comes on standard input. All that is decided stands in `listing_text`; here bytes are read and written. Reads and writes
+// go by parts of the buffers themselves, because the program may take 65,536 bytes in all and a copy would add to its stack.
 use libc::STDIN_FILENO;
 use libc::STDOUT_FILENO;
 use listing_text::list;

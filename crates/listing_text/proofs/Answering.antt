@@ -21,7 +21,7 @@ use Rattle.answers.proofs.Checks.{or-false}
 use Rattle.field.proofs.Sizes.{size-enough, size-least}
 use Rattle.bundle_layout.specs.Fields.{kIn, nIn, lengthIn, heldIn, blocksIn}
 use Rattle.bundle_layout.specs.Layout.{badFront, restGood, layoutChecks}
-use Rattle.bundle_layout.specs.Rooms.{workRoom}
+use Rattle.bundle_layout.specs.Rooms.{bundleWork}
 use Rattle.bundle_layout.proofs.Passing.{n-limited, held-few}
 use Rattle.bundle_read.specs.Reading.{blocksAnswer}
 use Rattle.bundle_layout.specs.Shape.{badBundleShape}
@@ -44,8 +44,8 @@ or-turned false true = refl
 or-turned false false = refl
 
 -- 8N is above 8 * 256 exactly where n is above 256
-n-served : (n : ℕ) → n ≤ longest → ltb (8 * mostN) (workRoom n) ≡ ltb mostN n
-unfolding mostN workRoom longest
+n-served : (n : ℕ) → n ≤ longest → ltb (8 * mostN) (bundleWork n) ≡ ltb mostN n
+unfolding mostN bundleWork longest
 n-served n limit =
     elim (decLe n 256) [
       | yes few ↦ le-ltb 2048 (8 * sizeOf n) (omega (arith, size-least n 8 few)) ∙ sym (le-ltb 256 n few)
@@ -92,7 +92,7 @@ served-checks : (s : List ℕ) → layoutChecks s ≡ result []
     → after (roomChecks s mostLength (8 * mostN)) (blocksAnswer s 0 (blocksIn s)) ≡ servedAnswer s
 unfolding roomChecks servedAnswer
 served-checks s good =
-    after-two (ltb mostLength (lengthIn s) || ltb (8 * mostN) (workRoom (nIn s))) (ltb (heldIn s) (kIn s)) _
+    after-two (ltb mostLength (lengthIn s) || ltb (8 * mostN) (bundleWork (nIn s))) (ltb (heldIn s) (kIn s)) _
     ∙ ap (λ (bad : Bool). refuseIf bad Room (refuseIf (ltb (heldIn s) (kIn s)) Few (blocksAnswer s 0 (blocksIn s))))
     (ap (ltb mostLength (lengthIn s) ||_) (n-served (nIn s) (n-limited s good)) ∙ or-turned (ltb mostLength (lengthIn s)) (ltb mostN (nIn s)))
 
@@ -132,8 +132,8 @@ module _ (s : List ℕ) (n L m k : ℕ) (is-n : n ≡ nIn s) (is-L : L ≡ lengt
       rw (le-ltb mostN (nIn s) (omega (arith, is-n)), le-ltb mostLength (lengthIn s) (omega (arith, is-L)), le-ltb (heldIn s) (kIn s) (omega (arith, is-m, is-k))) refl
 
 -- the cells that decoding takes are there
-pub cells-enough : (n stated : ℕ) → n ≤ mostN → stated ≡ workRoom n → stated ≤ 8 * mostN
-unfolding mostN workRoom
+pub cells-enough : (n stated : ℕ) → n ≤ mostN → stated ≡ bundleWork n → stated ≤ 8 * mostN
+unfolding mostN bundleWork
 cells-enough n stated few is = omega (arith, size-least n 8 few)
 
 pub long-refused : (s : List ℕ) → mostInput < length s → refused Room ≡ programAnswer s

@@ -15,7 +15,7 @@ use Rattle.bundle_layout.specs.Blocks.{blocksOf}
 use Rattle.bundle_storage.specs.Bytes.{twoAt, fourAt}
 use Rattle.bundle_layout.specs.Fields.{kIn, nIn, lengthIn, heldIn, blocksIn, entryAt, positionIn, countIn, offsetIn}
 use Rattle.bundle_layout.specs.Layout.{badFront, layoutChecks}
-use Rattle.bundle_layout.specs.Rooms.{workRoom}
+use Rattle.bundle_layout.specs.Rooms.{bundleWork}
 use Rattle.bundle_layout.specs.Shadows.{headerSize, entrySize}
 use Rattle.bundle.specs.Worked.{file11, bundle11}
 use Rattle.bundle.proofs.Theorems.{worked-table}
@@ -28,7 +28,7 @@ use Rattle.listing_text.proofs.Answering.{read-answers}
 
 -- it is read, with as much output and working space as the program has
 p11-read : (out work : List ℕ) → length out ≡ mostLength → length work ≡ 8 * mostN → programAnswer bundle11 ≡ result (4 ∷ [])
-unfolding mostInput mostN mostLength file11 bundle11 workRoom sizeOf levelOf first
+unfolding mostInput mostN mostLength file11 bundle11 bundleWork sizeOf levelOf first
 p11-read out work o w =
     sym (read-answers bundle11 out work (lit≤ tt) o w)
     ∙ ap {A = Leaves} {B = Answer} (λ l. l .answer) (worked-table .p11 .1 out work (omega arith) (omega arith))

@@ -1,7 +1,7 @@
 // What the program answers to its input. No entry points and for this crate alone: `list` asks its caller for the working space.
 use answers::Outcome;
 use answers::Refusal;
-use bundle::inner::work_room;
+use bundle::inner::bundle_work;
 use bundle_gather::start;
 use bundle_layout::inner::held_in;
 use bundle_layout::inner::k_in;
@@ -16,7 +16,7 @@ ghost use lib.ListN.{length};
 ghost use Rattle.answers.specs.Refusals.{result, toldOutcome, after};
 ghost use Rattle.bundle_layout.specs.Fields.{kIn, nIn, lengthIn, heldIn, blocksIn};
 ghost use Rattle.bundle_layout.specs.Layout.{layoutChecks};
-ghost use Rattle.bundle_layout.specs.Rooms.{workRoom};
+ghost use Rattle.bundle_layout.specs.Rooms.{bundleWork};
 ghost use Rattle.bundle_read.specs.Reading.{blocksAnswer};
 ghost use Rattle.listing_text.specs.Answers.{mostN, servedAnswer, programAnswer};
 
@@ -29,7 +29,7 @@ const MOST_LENGTH: usize = 24576;
 // Every block is decoded; of the file no byte is kept, since none is printed.
 fn blocks_answer(bundle: &[u8], cells: &mut [u32]) -> Outcome
     requires { ⌜ (layoutChecks (now bundle) ≡ result []) × (kIn (now bundle) ≤ heldIn (now bundle))
-        × (length (now cells) ≡ workRoom (nIn (now bundle))) ⌝ }
+        × (length (now cells) ≡ bundleWork (nIn (now bundle))) ⌝ }
     ensures { λ r. ⌜ after (toldOutcome r) (result (lengthIn (now (bundle .entry)) ∷ []))
         ≡ blocksAnswer (now (bundle .entry)) 0 (blocksIn (now (bundle .entry))) ⌝ }
 {
@@ -54,7 +54,7 @@ fn served_answer(bundle: &[u8], work: &mut [u32]) -> Outcome
     if held_in(bundle) < k_in(bundle) {
         return Outcome::Refused(Refusal::Few);
     }
-    let stated = work_room(n);
+    let stated = bundle_work(n);
     blocks_answer(bundle, &mut work[0..stated])
 }
 

@@ -15,15 +15,15 @@ use Rattle.field.proofs.Powers.{full-power}
 use Rattle.field.proofs.Ring.{power-≈}
 use Rattle.field.proofs.Roots.{root-order, powers-distinct}
 use Rattle.poly.specs.Distinct.{Distinct}
-use Rattle.poly.specs.Every.{Every}
+use Rattle.lists.specs.Every.{Every}
 use Rattle.poly.specs.Products.{vanishing}
-use Rattle.poly.specs.Tab.{tab}
+use Rattle.lists.specs.Tab.{tab}
 use Rattle.poly.specs.Value.{value}
 use Rattle.poly.proofs.Counting.{unique}
 use Rattle.poly.proofs.Distinct.{distinct-tab}
-use Rattle.poly.proofs.Every.{every-map, every-both, every-left, every-tab, every-replicate}
+use Rattle.lists.proofs.Every.{every-map, every-both, every-left, every-tab, every-replicate}
 use Rattle.poly.proofs.Products.{vanishing-length, vanishing-symbols, vanishing-roots, vanishing-last}
-use Rattle.poly.proofs.Tab.{tab-length, with-last}
+use Rattle.lists.proofs.Tab.{tab-length, with-last}
 use Rattle.poly.proofs.Values.{value-append, value-zeros}
 
 module _ (n : ℕ) (zs : List ℕ) (size : length zs ≡ suc n) where

@@ -11,10 +11,10 @@ use Rattle.field.proofs.Congruence.{≈-of, ≈-sym, _∘≈_, _+≈_, comb, re
 use Rattle.field.proofs.Fermat.{no-divisors}
 use Rattle.poly.specs.Distinct.{Distinct}
 use Rattle.poly.specs.Division.{quotient}
-use Rattle.poly.specs.Every.{Every}
+use Rattle.lists.specs.Every.{Every}
 use Rattle.poly.specs.Value.{value}
 use Rattle.poly.proofs.Division.{quotient-length, divided, quotient-zero}
-use Rattle.poly.proofs.Every.{every-map, every-both}
+use Rattle.lists.proofs.Every.{every-map, every-both}
 
 -- what two distinct numbers multiply to the same is 0
 pub cancel : (x y c : ℕ) → ¬ (y ≈ x) → x * c ≈ y * c → c ≈ 0

@@ -7,9 +7,9 @@ use native.Mathlib.Omega.{arith}
 use lib.ListN.{length, getD}
 use Rattle.field.specs.Congruence.{_≈_}
 use Rattle.poly.specs.Distinct.{Distinct}
-use Rattle.poly.specs.Tab.{tab}
-use Rattle.poly.proofs.Every.{every-of}
-use Rattle.poly.proofs.Tab.{tab-at, tab-length}
+use Rattle.lists.specs.Tab.{tab}
+use Rattle.lists.proofs.Every.{every-of}
+use Rattle.lists.proofs.Tab.{tab-at, tab-length}
 
 pub distinct-of : (s : List ℕ) → ((i j : ℕ) → i < j → j < length s → ¬ (getD s j 0 ≈ getD s i 0)) → Distinct s
 unfolding Distinct

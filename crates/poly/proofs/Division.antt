@@ -8,7 +8,7 @@ use lib.ListN.{length}
 use Rattle.field.specs.Congruence.{_≈_}
 use Rattle.field.proofs.Congruence.{≈-sym, _+≈_, _·≈_, comb}
 use Rattle.poly.specs.Division.{quotient}
-use Rattle.poly.specs.Every.{Every}
+use Rattle.lists.specs.Every.{Every}
 use Rattle.poly.specs.Value.{value}
 
 pub quotient-length : (a : ℕ) (s : List ℕ) (x : ℕ) → length (quotient a s x) ≡ length s

@@ -12,7 +12,7 @@ use Rattle.field.proofs.Congruence.{≈-of, ≈-sym, _∘≈_, _+≈_, _·≈_,
 use Rattle.field.proofs.Fermat.{inverse-≈}
 use Rattle.field.proofs.Ring.{difference-≈, product-≈}
 use Rattle.poly.specs.Distinct.{Distinct}
-use Rattle.poly.specs.Every.{Every}
+use Rattle.lists.specs.Every.{Every}
 use Rattle.poly.specs.Interpolation.{slopes, through, GoesThrough}
 use Rattle.poly.specs.Raised.{raised}
 use Rattle.poly.specs.Value.{value}

@@ -1,9 +1,6 @@
-pub mod Tab
-pub mod Window
 pub mod Sum
 pub mod Values
 pub mod Parts
-pub mod Every
 pub mod Symbols
 pub mod Distinct
 pub mod Sieve

@@ -9,12 +9,12 @@ use lib.Dec.{lit<}
 use lib.ListN.{length, getD}
 use Rattle.field.specs.Congruence.{_≈_}
 use Rattle.field.proofs.Congruence.{≈-of, ≈-sym, _∘≈_, _+≈_, _·≈_, comb}
-use Rattle.poly.specs.Every.{Every}
+use Rattle.lists.specs.Every.{Every}
 use Rattle.poly.specs.Raised.{raised}
 use Rattle.poly.specs.Products.{times, vanishing}
 use Rattle.poly.specs.Value.{value}
 use Rattle.poly.proofs.Counting.{cancel}
-use Rattle.poly.proofs.Every.{every-map, every-at}
+use Rattle.lists.proofs.Every.{every-map, every-at}
 use Rattle.poly.proofs.Raised.{raised-length, raised-symbols, raised-value, raised-last}
 
 one-symbol : Every (_< 65537) (1 ∷ [])

@@ -10,7 +10,7 @@ use Rattle.field.specs.Congruence.{_≈_}
 use Rattle.field.specs.Field.{difference, product}
 use Rattle.field.proofs.Congruence.{≈-refl, _∘≈_, _+≈_, _·≈_, mod-≈, comb}
 use Rattle.field.proofs.Ring.{difference-≈, product-≈, difference-lt}
-use Rattle.poly.specs.Every.{Every}
+use Rattle.lists.specs.Every.{Every}
 use Rattle.poly.specs.Raised.{raised}
 use Rattle.poly.specs.Value.{value}
 

@@ -7,9 +7,9 @@ use native.Mathlib.Omega.{arith}
 use lib.ListN.{set, length-set}
 use lib.Seq.{getD-set-same, getD-set-other}
 use Rattle.field.specs.Symbol.{Symbols}
-use Rattle.poly.specs.Every.{Every}
-use Rattle.poly.specs.Tab.{tab}
-use Rattle.poly.proofs.Every.{every-append, every-at, every-of, every-tab}
+use Rattle.lists.specs.Every.{Every}
+use Rattle.lists.specs.Tab.{tab}
+use Rattle.lists.proofs.Every.{every-append, every-at, every-of, every-tab}
 
 -- by index, and by the list's own shape
 pub symbols-at : (s : List ℕ) → Every (_< 65537) s → Symbols s

@@ -11,10 +11,10 @@ use Rattle.field.specs.Congruence.{_≈_}
 use Rattle.field.proofs.Congruence.{≈-refl, ≈-of, _∘≈_, _+≈_, _·≈_, mul-≈, mod-≈}
 use Rattle.poly.specs.Parts.{evens, odds}
 use Rattle.poly.specs.Sum.{total}
-use Rattle.poly.specs.Tab.{tab}
+use Rattle.lists.specs.Tab.{tab}
 use Rattle.poly.specs.Value.{value}
 use Rattle.poly.proofs.Sum.{total-ext, total-scale, total-zero}
-use Rattle.poly.proofs.Tab.{tab-length, tab-at}
+use Rattle.lists.proofs.Tab.{tab-length, tab-at}
 
 pub plain-sum : (s : List ℕ) (x : ℕ) → value s x ≡ total (length s) (λ i. getD s i 0 * x ^ i)
 unfolding value total

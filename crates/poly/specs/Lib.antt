@@ -1,8 +1,6 @@
-pub mod Tab
 pub mod Sum
 pub mod Value
 pub mod Parts
-pub mod Every
 pub mod Distinct
 pub mod Division
 pub mod Raised

@@ -9,12 +9,12 @@ use Rattle.field.specs.Roots.{root}
 use Rattle.field.specs.Symbol.{Symbols}
 use Rattle.poly.specs.Distinct.{Distinct}
 use Rattle.poly.specs.Division.{quotient}
-use Rattle.poly.specs.Every.{Every}
+use Rattle.lists.specs.Every.{Every}
 use Rattle.poly.specs.Interpolation.{through, GoesThrough}
 use Rattle.poly.specs.Parts.{evens, odds}
 use Rattle.poly.specs.Products.{times, vanishing}
 use Rattle.poly.specs.Sum.{total}
-use Rattle.poly.specs.Tab.{tab}
+use Rattle.lists.specs.Tab.{tab}
 use Rattle.poly.specs.Value.{value}
 
 -- The value of a polynomial

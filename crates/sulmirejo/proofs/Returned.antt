@@ -17,10 +17,10 @@ use Rattle.bundle_layout.specs.declared.facts.Facts.{Facts}
 use Rattle.bundle_layout.specs.declared.facts.FactsAnswer.the-variants as F
 use Rattle.bundle.specs.Answers.{toldLength}
 use Rattle.bundle.specs.declared.answer.LengthAnswer.{LengthAnswer}
-use Rattle.rooms.specs.Rooms.{toldRoom, transformRoomAnswer}
-use Rattle.rooms.specs.declared.answer.Space.{Space}
-use Rattle.rooms.specs.declared.answer.RoomAnswer.{RoomAnswer}
-use Rattle.rooms.specs.declared.answer.RoomAnswer.the-variants as R
+use Rattle.room_calls.specs.Rooms.{toldRoom, transformRoomAnswer}
+use Rattle.room_calls.specs.declared.answer.Space.{Space}
+use Rattle.room_calls.specs.declared.answer.RoomAnswer.{RoomAnswer}
+use Rattle.room_calls.specs.declared.answer.RoomAnswer.the-variants as R
 use Rattle.answers.specs.Telling.{Returned, status-number, returned}
 use Rattle.sulmirejo.specs.Face.{returnedNumber, with-point, pointReturned, with-lists, listsReturned, listsReturnedNumber, with-facts, factsReturned, with-entry, entryReturned, RoomReturned, with-room, roomReturned}
 

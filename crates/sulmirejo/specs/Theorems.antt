@@ -9,7 +9,7 @@ use Rattle.transform.specs.Calls.{transformLeaves, inverseLeaves}
 use Rattle.block.specs.Calls.{encodeLeaves, decodeLeaves}
 use Rattle.bundle_layout.specs.Facts.{factsAnswer, entryAnswer}
 use Rattle.bundle.specs.Calls.{writeLeaves, readLeaves}
-use Rattle.rooms.specs.Rooms.{transformRoomAnswer, encodeRoomAnswer, decodeRoomAnswer, writeRoomAnswer, readRoomAnswer}
+use Rattle.room_calls.specs.Rooms.{transformRoomAnswer, encodeRoomAnswer, decodeRoomAnswer, writeRoomAnswer, readRoomAnswer}
 use Rattle.sulmirejo.specs.Face.{PointReturned, pointReturned, ListsReturned, listsReturned, listsReturnedNumber, FactsReturned, factsReturned, EntryReturned, entryReturned, RoomReturned, roomReturned}
 
 -- Two outcomes of a call are equal: the status, the number, the point, every number written, every cell of the lent lists

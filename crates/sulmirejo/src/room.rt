@@ -1,9 +1,9 @@
 // The part of the face that tells how much room a call asks for.
 use answers::Outcome;
 use answers::tell;
-use rooms::RoomAnswer;
+use room_calls::RoomAnswer;
 ghost use mathlib.Core.Path.{_≡_};
-ghost use Rattle.rooms.specs.Rooms.{toldRoom, transformRoomAnswer, encodeRoomAnswer, decodeRoomAnswer, writeRoomAnswer, readRoomAnswer};
+ghost use Rattle.room_calls.specs.Rooms.{toldRoom, transformRoomAnswer, encodeRoomAnswer, decodeRoomAnswer, writeRoomAnswer, readRoomAnswer};
 ghost use Rattle.answers.specs.Telling.{status-number};
 ghost use Rattle.sulmirejo.specs.Face.{with-room, roomReturned};
 
@@ -33,7 +33,7 @@ pub extern "C" fn sulmirejo_transform_room(
         ≡ roomReturned (transformRoomAnswer length) 0 (now (work .entry)) ⌝ }
 {
     let mut none = 0;
-    tell_room(rooms::transform_room(length), &mut none, work, number)
+    tell_room(room_calls::transform_room(length), &mut none, work, number)
 }
 
 #[no_mangle]
@@ -47,7 +47,7 @@ pub extern "C" fn sulmirejo_encode_room(
     ensures { λ r. ⌜ with-room (status-number r (now (number .exit))) (now (out .exit)) (now (work .exit))
         ≡ roomReturned (encodeRoomAnswer k n) (now (out .entry)) (now (work .entry)) ⌝ }
 {
-    tell_room(rooms::encode_room(k, n), out, work, number)
+    tell_room(room_calls::encode_room(k, n), out, work, number)
 }
 
 #[no_mangle]
@@ -61,7 +61,7 @@ pub extern "C" fn sulmirejo_decode_room(
     ensures { λ r. ⌜ with-room (status-number r (now (number .exit))) (now (out .exit)) (now (work .exit))
         ≡ roomReturned (decodeRoomAnswer k n) (now (out .entry)) (now (work .entry)) ⌝ }
 {
-    tell_room(rooms::decode_room(k, n), out, work, number)
+    tell_room(room_calls::decode_room(k, n), out, work, number)
 }
 
 #[no_mangle]
@@ -76,7 +76,7 @@ pub extern "C" fn sulmirejo_write_room(
     ensures { λ r. ⌜ with-room (status-number r (now (number .exit))) (now (out .exit)) (now (work .exit))
         ≡ roomReturned (writeRoomAnswer k n length) (now (out .entry)) (now (work .entry)) ⌝ }
 {
-    tell_room(rooms::write_room(k, n, length), out, work, number)
+    tell_room(room_calls::write_room(k, n, length), out, work, number)
 }
 
 #[no_mangle]
@@ -89,5 +89,5 @@ pub extern "C" fn sulmirejo_read_room(
     ensures { λ r. ⌜ with-room (status-number r (now (number .exit))) (now (out .exit)) (now (work .exit))
         ≡ roomReturned (readRoomAnswer (now (bundle .entry))) (now (out .entry)) (now (work .entry)) ⌝ }
 {
-    tell_room(rooms::read_room(bundle), out, work, number)
+    tell_room(room_calls::read_room(bundle), out, work, number)
 }

@@ -10,8 +10,8 @@ use native.Mathlib.Omega.{arith}
 use borrow.Author.Tests.{lt-ltb, le-ltb}
 use lib.ListN.{length, getD, set, length-set}
 use lib.Seq.{getD-set-same, getD-set-other}
-use Rattle.poly.specs.Tab.{tab}
-use Rattle.poly.proofs.Tab.{tab-ext, tab-getD}
+use Rattle.lists.specs.Tab.{tab}
+use Rattle.lists.proofs.Tab.{tab-ext, tab-getD}
 use Rattle.transform_halving.specs.Order.{exchanged}
 
 -- What an exchange leaves where

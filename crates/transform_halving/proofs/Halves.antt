@@ -12,9 +12,9 @@ use Rattle.field.specs.Size.{levelOf}
 use Rattle.field.specs.Symbol.{Symbols}
 use Rattle.field.proofs.Ring.{sum-lt, difference-lt}
 use Rattle.field.proofs.Sizes.{level-le, level-power}
-use Rattle.poly.specs.Tab.{tab}
+use Rattle.lists.specs.Tab.{tab}
 use Rattle.poly.proofs.Symbols.{append-symbols, tab-symbols}
-use Rattle.poly.proofs.Tab.{tab-length}
+use Rattle.lists.proofs.Tab.{tab-length}
 use Rattle.transform_halving.specs.Halving.{turned, joined}
 use Rattle.transform_halving.specs.InPlace.{halved}
 use Rattle.transform_halving.specs.Transformable.{Transformable}

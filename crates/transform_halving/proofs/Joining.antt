@@ -8,8 +8,8 @@ use native.Mathlib.Omega.{arith}
 use lib.ListN.{length, getD, take, drop, set}
 use lib.Seq.{getD-drop, getD-take, length-take-le}
 use Rattle.field.specs.Field.{sum, difference}
-use Rattle.poly.proofs.Tab.{tab-ext}
-use Rattle.poly.proofs.Window.{window, window-none, window-store, window-set-before, window-before, window-past, window-length, window-end, window-front}
+use Rattle.lists.proofs.Tab.{tab-ext}
+use Rattle.lists.proofs.Window.{window, window-none, window-store, window-set-before, window-before, window-past, window-length, window-end, window-front}
 use Rattle.transform_halving.specs.Halving.{turned, joined}
 
 module _ (d : List ℕ) (half root : ℕ) where

@@ -13,9 +13,9 @@ use Rattle.field.specs.Field.{product}
 use Rattle.field.specs.Size.{levelOf}
 use Rattle.field.proofs.Sizes.{level-power}
 use Rattle.poly.specs.Parts.{evens, odds}
-use Rattle.poly.specs.Tab.{tab}
+use Rattle.lists.specs.Tab.{tab}
 use Rattle.poly.proofs.Parts.{parts-length, parts-at}
-use Rattle.poly.proofs.Tab.{tab-length, tab-ext, tab-append, tab-getD}
+use Rattle.lists.proofs.Tab.{tab-length, tab-ext, tab-append, tab-getD}
 use Rattle.transform_halving.specs.Halving.{joined, halving}
 use Rattle.transform_halving.specs.InPlace.{halved}
 use Rattle.transform_halving.specs.Order.{reversed, arranged}

@@ -13,8 +13,8 @@ use Rattle.field.specs.Size.{levelOf}
 use Rattle.field.proofs.Congruence.{≈-sym, _+≈_, _·≈_, comb}
 use Rattle.field.proofs.Roots.{root-half}
 use Rattle.field.proofs.Sizes.{level-le}
-use Rattle.poly.specs.Tab.{tab}
-use Rattle.poly.proofs.Tab.{tab-length, tab-at}
+use Rattle.lists.specs.Tab.{tab}
+use Rattle.lists.proofs.Tab.{tab-length, tab-at}
 use Rattle.transform_halving.specs.InPlace.{halved}
 use Rattle.transform_halving.specs.Order.{reversed, arranged}
 use Rattle.transform_halving.specs.Transformable.{Transformable}

@@ -15,12 +15,12 @@ use Rattle.field.proofs.Powers.{pow-times, pow-two, mul-pow}
 use Rattle.field.proofs.Ring.{product-≈, power-≈}
 use Rattle.poly.specs.Parts.{evens, odds}
 use Rattle.poly.specs.Sum.{total}
-use Rattle.poly.specs.Tab.{tab}
+use Rattle.lists.specs.Tab.{tab}
 use Rattle.poly.specs.Value.{value}
 use Rattle.poly.proofs.Parts.{parts-length, parts-at}
 use Rattle.poly.proofs.Sum.{total-ext}
 use Rattle.poly.proofs.Symbols.{tab-symbols}
-use Rattle.poly.proofs.Tab.{tab-length, tab-at, tab-ext, tab-append}
+use Rattle.lists.proofs.Tab.{tab-length, tab-at, tab-ext, tab-append}
 use Rattle.poly.proofs.Values.{plain-sum, split, value-≈}
 use Rattle.transform_halving.specs.Halving.{turned, joined, halving}
 use Rattle.transform_halving.specs.Transform.{sums}

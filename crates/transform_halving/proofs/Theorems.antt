@@ -16,12 +16,12 @@ use Rattle.field.specs.Symbol.{Symbols}
 use Rattle.field.proofs.Congruence.{≈-sym, mod-≈}
 use Rattle.field.proofs.Ring.{product-lt}
 use Rattle.field.proofs.Sizes.{level-power}
-use Rattle.poly.specs.Every.{Every}
+use Rattle.lists.specs.Every.{Every}
 use Rattle.poly.specs.Sum.{total}
-use Rattle.poly.specs.Tab.{tab}
+use Rattle.lists.specs.Tab.{tab}
 use Rattle.poly.specs.Value.{value}
 use Rattle.poly.proofs.Symbols.{symbols-at}
-use Rattle.poly.proofs.Tab.{tab-at}
+use Rattle.lists.proofs.Tab.{tab-at}
 use Rattle.poly.proofs.Values.{value-≈}
 use Rattle.transform_halving.specs.Theorems.{HalvingIsSum, HalvedIsHalving, TransformIsValue, TransformSymbols, InverseUndoes, TransformUndoes, WorkedNumbers}
 use Rattle.transform_halving.specs.Transform.{sums, transformOf, inverseOf}

@@ -19,10 +19,10 @@ use Rattle.field.proofs.Ring.{product-≈, product-lt}
 use Rattle.field.proofs.Roots.{root-full, root-order, powers-distinct}
 use Rattle.field.proofs.Sizes.{level-le}
 use Rattle.poly.specs.Sum.{total}
-use Rattle.poly.specs.Tab.{tab}
+use Rattle.lists.specs.Tab.{tab}
 use Rattle.poly.specs.Value.{value}
 use Rattle.poly.proofs.Sum.{total-≈, total-scale}
-use Rattle.poly.proofs.Tab.{tab-length, tab-ext, tab-getD}
+use Rattle.lists.proofs.Tab.{tab-length, tab-ext, tab-getD}
 use Rattle.poly.proofs.Values.{plain-sum, value-tab}
 use Rattle.transform_halving.specs.Transformable.{Transformable}
 use Rattle.transform_halving.specs.Transform.{transformOf, inverseOf}

@@ -5,7 +5,7 @@ use Prim.Native.Nat.{ℕ, zero, suc}
 use lib.ListN.{length, getD}
 use Rattle.field.specs.Field.{sum, difference, product, power}
 use Rattle.poly.specs.Parts.{evens, odds}
-use Rattle.poly.specs.Tab.{tab}
+use Rattle.lists.specs.Tab.{tab}
 
 -- r^j times the number at j
 abbrev pub turned : ℕ → List ℕ → ℕ → ℕ

@@ -6,7 +6,7 @@ use Prim.Native.Nat.{ℕ, zero, suc, _+_, _*_, _^_, _/_, _%_}
 use lib.Dec.{ltb}
 use lib.ListN.{length, getD, set}
 use Rattle.field.specs.Size.{levelOf}
-use Rattle.poly.specs.Tab.{tab}
+use Rattle.lists.specs.Tab.{tab}
 
 -- i with its `level` binary digits in reverse
 unfoldable pub reversed : ℕ → ℕ → ℕ

@@ -5,7 +5,7 @@ use lib.ListN.{length, getD}
 use Rattle.field.specs.Field.{product, inverse}
 use Rattle.field.specs.Points.{rootOf}
 use Rattle.poly.specs.Sum.{total}
-use Rattle.poly.specs.Tab.{tab}
+use Rattle.lists.specs.Tab.{tab}
 
 -- A_j = sum over i of a_i · r^(ij), for j = 0 to N - 1
 unfoldable pub sums : ℕ → List ℕ → List ℕ

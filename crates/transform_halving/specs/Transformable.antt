@@ -1,4 +1,4 @@
--- What the inner functions ask of a list: a power of two of symbols.
+-- What the functions of this crate ask of a list: a power of two of symbols.
 use mathlib.Core.Path.{_≡_}
 use mathlib.Core.List.{List}
 use Prim.Native.Nat.{ℕ}

@@ -12,7 +12,7 @@ ghost use lib.ListN.{length, getD};
 ghost use Rattle.field.specs.Field.{product};
 ghost use Rattle.field.specs.Size.{levelOf, sizeOf};
 ghost use Rattle.field.specs.Symbol.{Symbols};
-ghost use Rattle.poly.specs.Tab.{tab};
+ghost use Rattle.lists.specs.Tab.{tab};
 ghost use Rattle.transform_halving.specs.InPlace.{joinedHalves, halved};
 ghost use Rattle.transform_halving.specs.Order.{IsNext, arranged, exchanged};
 ghost use Rattle.transform_halving.specs.Transformable.{Transformable};

@@ -14,18 +14,18 @@ use Rattle.field.specs.Size.{levelOf}
 use Rattle.field.specs.Symbol.{Symbols}
 use Rattle.field.proofs.Roots.{root-square}
 use Rattle.field.proofs.Sizes.{level-le, level-power}
-use Rattle.poly.specs.Every.{Every}
-use Rattle.poly.proofs.Every.{every-left, every-right}
+use Rattle.lists.specs.Every.{Every}
+use Rattle.lists.proofs.Every.{every-left, every-right}
 use Rattle.poly.proofs.Symbols.{append-symbols, symbols-at, symbols-every}
 use Rattle.transform_halving.specs.Halving.{joined}
 use Rattle.transform_halving.specs.InPlace.{joinedHalves, halved}
 use Rattle.transform_halving.specs.Transformable.{Transformable}
 use Rattle.transform_halving.proofs.Halves.{Pair, pair-of, halved-length, halved-symbols, single-halved}
 use Rattle.transform_halving.proofs.Transformable.{transformable-of}
-use Rattle.transform_table.specs.Part.{part, replaced}
+use Rattle.lists.specs.Part.{part, replaced}
 use Rattle.transform_table.specs.Turns.{Turns, Tabled}
 use Rattle.transform_table.proofs.Turns.{turns-square, turns-kept, tabled-kept}
-use Rattle.transform_table.proofs.Part.{part-length, part-join, replaced-self, replaced-length, replaced-behind, replaced-part, replaced-twice, replaced-join}
+use Rattle.lists.proofs.Part.{part-length, part-join, replaced-self, replaced-length, replaced-behind, replaced-part, replaced-twice, replaced-join}
 
 module _ (c : List ℕ) (at size table step : ℕ) (tabled : Tabled c at size table step) where
   inside : at + size ≤ length c

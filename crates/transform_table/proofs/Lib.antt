@@ -1,4 +1,3 @@
-pub mod Part
 pub mod Turns
 pub mod Halves
 pub mod Round

@@ -13,9 +13,9 @@ use Rattle.field.specs.Congruence.{_≈_}
 use Rattle.field.specs.Field.{inverse}
 use Rattle.field.specs.Points.{rootOf}
 use Rattle.field.proofs.Congruence.{≈-of, ≈-sym, _+≈_, _·≈_, comb}
-use Rattle.poly.specs.Tab.{tab}
+use Rattle.lists.specs.Tab.{tab}
 use Rattle.poly.specs.Value.{value}
-use Rattle.poly.proofs.Tab.{tab-ext}
+use Rattle.lists.proofs.Tab.{tab-ext}
 use Rattle.poly.proofs.Values.{value-≈}
 use Rattle.transform_halving.specs.Transformable.{Transformable}
 use Rattle.transform_halving.specs.Transform.{sums, transformOf}

@@ -14,11 +14,11 @@ use Rattle.transform_halving.specs.Transformable.{Transformable}
 use Rattle.transform_halving.specs.Transform.{sums, transformOf}
 use Rattle.transform_halving.proofs.Steps.{arranged-length, arranged-transformable, transform-steps}
 use Rattle.transform_halving.proofs.Undo.{transform-length}
-use Rattle.transform_table.specs.Part.{part, replaced}
+use Rattle.lists.specs.Part.{part, replaced}
 use Rattle.transform_table.specs.Round.{turnedRound}
 use Rattle.transform_table.specs.Turns.{Tabled}
 use Rattle.transform_table.proofs.Turns.{tabled-kept}
-use Rattle.transform_table.proofs.Part.{part-length, replaced-part, replaced-twice, lent-part, returned-part}
+use Rattle.lists.proofs.Part.{part-length, replaced-part, replaced-twice, lent-part, returned-part}
 use Rattle.transform_table.proofs.Round.{sums-back}
 
 -- the part as it is lent, and the slice when it comes back as s

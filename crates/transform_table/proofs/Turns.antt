@@ -10,9 +10,9 @@ use Rattle.field.specs.Field.{product}
 use Rattle.field.specs.Points.{rootOf}
 use Rattle.field.proofs.Ring.{power-zero, power-plus, power-product}
 use Rattle.transform_halving.specs.Transformable.{Transformable}
-use Rattle.transform_table.specs.Part.{replaced}
+use Rattle.lists.specs.Part.{replaced}
 use Rattle.transform_table.specs.Turns.{Turns, Tabled}
-use Rattle.transform_table.proofs.Part.{replaced-length, replaced-part, replaced-past}
+use Rattle.lists.proofs.Part.{replaced-length, replaced-part, replaced-past}
 
 -- the first turn is 1, and so it stands in the slice
 pub turns-inside : (root table count step : ℕ) (c : List ℕ) → Turns root table count step c → 0 < count → table < length c

@@ -6,7 +6,7 @@ use lib.ListN.{length, getD}
 use Rattle.field.specs.Field.{power}
 use Rattle.field.specs.Points.{rootOf}
 use Rattle.transform_halving.specs.Transformable.{Transformable}
-use Rattle.transform_table.specs.Part.{part}
+use Rattle.lists.specs.Part.{part}
 
 -- from `at` on, every step-th cell holds the next power of the root, `count` of them
 pub record Turns (root at count step : ℕ) (cells : List ℕ) : Type 0 where

@@ -11,10 +11,10 @@ ghost use lib.ListN.{length};
 ghost use Rattle.field.specs.Field.{power, inverse};
 ghost use Rattle.field.specs.Points.{rootOf};
 ghost use Rattle.field.specs.Size.{levelOf};
-ghost use Rattle.poly.specs.Tab.{tab};
+ghost use Rattle.lists.specs.Tab.{tab};
 ghost use Rattle.transform_halving.specs.InPlace.{joinedHalves, halved};
 ghost use Rattle.transform_halving.specs.Transform.{sums, transformOf};
-ghost use Rattle.transform_table.specs.Part.{part, replaced};
+ghost use Rattle.lists.specs.Part.{part, replaced};
 ghost use Rattle.transform_table.specs.Round.{turnedRound};
 ghost use Rattle.transform_table.specs.Turns.{Tabled};
 

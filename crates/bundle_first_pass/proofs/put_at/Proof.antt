@@ -3,7 +3,7 @@
 use native.Mathlib.Omega.{arith}
 use borrow.Author.Needs.{needs}
 use Rattle.bundle_storage.specs.Storage.{bodySize}
-use Rattle.bundle_storage.proofs.Placing.{lent-length, stored-part}
+use Rattle.bundle_storage.proofs.Placing.{lent-bytes-length, stored-part}
 use Rattle.bundle_first_pass.proofs.put_at.Statement.{statement}
 use Rattle.bundle_first_pass.proofs.put_at.Tie as tie
 
@@ -19,7 +19,7 @@ put-at-spec =
     (λ c. search needs)
     (λ c κs.
     let start = c .before .before .before in
-    let long = lent-length (start .args .at) (c .before .body-size .result) (start .args .out .now) (omega arith) in
+    let long = lent-bytes-length (start .args .at) (c .before .body-size .result) (start .args .out .now) (omega arith) in
     (omega arith, omega arith, omega arith, start .pre .5))
     (λ c. search needs)
     (λ c.

@@ -5,7 +5,7 @@ use Prim.Native.Nat.{_-_, _≤_}
 use native.Mathlib.Nat.{zero-add}
 use borrow.Author.Needs.{needs}
 use lib.ListN.{length, getD}
-use Rattle.poly.proofs.Window.{window, window-none, window-store}
+use Rattle.lists.proofs.Window.{window, window-none, window-store}
 use Rattle.cells.proofs.Filled.{copied-whole}
 use Rattle.cells.proofs.copy_bytes.Statement.{statement}
 use Rattle.cells.proofs.copy_bytes.Tie as tie

@@ -7,13 +7,13 @@ use native.Mathlib.Omega.{arith}
 use borrow.Author.Needs.{needs}
 use lib.ListN.{replicate}
 use Rattle.answers.specs.Leaves.{written}
-use Rattle.code.specs.Rooms.{encodeRoom}
+use Rattle.code.specs.Rooms.{encodeWork}
 use Rattle.code.proofs.Spreading.{n-fits, message-fits, still-room, part-transformable, word, word-inside, word-fits, cells-length}
 use Rattle.code.proofs.spread.Statement.{statement}
 use Rattle.code.proofs.spread.Tie as tie
 
 pub spread-spec : {M : Type 1} → statement M
-unfolding encodeRoom
+unfolding encodeWork
 spread-spec =
     tie.close
     (tie.spec

@@ -10,10 +10,10 @@ use lib.Seq.{getD-take}
 use Rattle.field.specs.Field.{power}
 use Rattle.field.specs.Symbol.{IsSymbol}
 use Rattle.poly.specs.Sum.{total}
-use Rattle.poly.specs.Tab.{tab}
+use Rattle.lists.specs.Tab.{tab}
 use Rattle.poly.proofs.Sum.{total-ext}
-use Rattle.poly.proofs.Tab.{tab-ext}
-use Rattle.poly.proofs.Window.{window, window-none, window-store, window-before, window-length, window-lead, window-rest}
+use Rattle.lists.proofs.Tab.{tab-ext}
+use Rattle.lists.proofs.Window.{window, window-none, window-store, window-before, window-length, window-lead, window-rest}
 use Rattle.decode_between.specs.Between.{psi, folded}
 use Rattle.decode_between.specs.Foldable.{Foldable}
 use Rattle.decode_between.proofs.Foldable.{N-small, inside, room-kept}

@@ -7,8 +7,8 @@ use native.Mathlib.Omega.{arith}
 use borrow.Author.Needs.{needs}
 use lib.ListN.{length, getD, take, drop, set}
 use Rattle.field.specs.Field.{product}
-use Rattle.poly.specs.Tab.{tab}
-use Rattle.poly.proofs.Window.{window, window-none, window-store, window-past, window-length}
+use Rattle.lists.specs.Tab.{tab}
+use Rattle.lists.proofs.Window.{window, window-none, window-store, window-past, window-length}
 use Rattle.decode_divide.proofs.divide_values.Statement.{statement}
 use Rattle.decode_divide.proofs.divide_values.Tie as tie
 

@@ -7,8 +7,8 @@ use native.Mathlib.Nat.{zero-add}
 use native.Mathlib.Omega.{arith}
 use borrow.Author.Needs.{needs}
 use lib.ListN.{length, getD, drop, set}
-use Rattle.poly.specs.Tab.{tab}
-use Rattle.poly.proofs.Window.{window, window-none, window-store, window-past, window-length, window-rest}
+use Rattle.lists.specs.Tab.{tab}
+use Rattle.lists.proofs.Window.{window, window-none, window-store, window-past, window-length, window-rest}
 use Rattle.decode_between.specs.Foldable.{PsiTable}
 use Rattle.decode_between.proofs.Foldable.{table-kept}
 use Rattle.decode_divide.specs.Quotients.{untwisted}

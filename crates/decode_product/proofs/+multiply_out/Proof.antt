@@ -12,7 +12,7 @@ use borrow.Fn.PlainCycle.{Measures, is, falls, and}
 use lib.ListN.{length}
 use Rattle.decode_product.proofs.Joining.{spread-good, both-good, both-length, multiplied}
 use Rattle.decode_product.proofs.Lending.{first-length, first-good, second-length, second-good}
-use Rattle.decode_product.proofs.moving.repeat.Reads as repeat-reads
+use Rattle.decode_product.proofs.moving.copy_within.Reads as repeat-reads
 use Rattle.decode_product.proofs.singly.multiply_few.Reads as multiply-few-reads
 use Rattle.decode_product.proofs.multiply.Reads as multiply-reads
 use Rattle.decode_product.proofs.multiply_out.Reads as multiply-out
@@ -55,9 +55,9 @@ pub +multiply-out-spec : {M : Type 1} → statement M
     let spread = c .before .before .before in
     let test = spread .before .before in
     let start = test .before .before in
-    let e = spread .repeat .last .0 in
-    let good = spread-good (start .args .cells .now) (start .pre .1) (enough (start .args .cells .now) (test .if1 .left)) e (spread .repeat .kept .0) (spread .repeat .ensures) in
-    (omega (arith, first-length e good, spread .repeat .kept .0, start .pre .0, test .if1 .left), first-good e good))
+    let e = spread .copy-within .last .0 in
+    let good = spread-good (start .args .cells .now) (start .pre .1) (enough (start .args .cells .now) (test .if1 .left)) e (spread .copy-within .kept .0) (spread .copy-within .ensures) in
+    (omega (arith, first-length e good, spread .copy-within .kept .0, start .pre .0, test .if1 .left), first-good e good))
     (λ c. search needs)
     (λ c. search needs)
     (λ c. search needs)
@@ -67,17 +67,17 @@ pub +multiply-out-spec : {M : Type 1} → statement M
     let spread = one .before .before .before .before in
     let test = spread .before .before in
     let start = test .before .before in
-    let e = spread .repeat .last .0 in
-    let good = spread-good (start .args .cells .now) (start .pre .1) (enough (start .args .cells .now) (test .if1 .left)) e (spread .repeat .kept .0) (spread .repeat .ensures) in
-    (omega (arith, second-length e good (one .multiply-out .last .0) (one .multiply-out .kept .0), spread .repeat .kept .0, start .pre .0, test .if1 .left), second-good e good (one .multiply-out .last .0) (one .multiply-out .kept .0)))
+    let e = spread .copy-within .last .0 in
+    let good = spread-good (start .args .cells .now) (start .pre .1) (enough (start .args .cells .now) (test .if1 .left)) e (spread .copy-within .kept .0) (spread .copy-within .ensures) in
+    (omega (arith, second-length e good (one .multiply-out .last .0) (one .multiply-out .kept .0), spread .copy-within .kept .0, start .pre .0, test .if1 .left), second-good e good (one .multiply-out .last .0) (one .multiply-out .kept .0)))
     (λ c κs.
     let other = c .before .before .before in
     let one = other .before .before .before .before in
     let spread = one .before .before .before .before in
     let test = spread .before .before in
     let start = test .before .before in
-    let e = spread .repeat .last .0 in
-    both-good (start .args .cells .now) (start .pre .1) (enough (start .args .cells .now) (test .if1 .left)) e (spread .repeat .kept .0) (spread .repeat .ensures) (one .multiply-out .last .0) (one .multiply-out .kept .0) (one .multiply-out .ensures) (other .multiply-out2 .last .0) (other .multiply-out2 .kept .0) (other .multiply-out2 .ensures))
+    let e = spread .copy-within .last .0 in
+    both-good (start .args .cells .now) (start .pre .1) (enough (start .args .cells .now) (test .if1 .left)) e (spread .copy-within .kept .0) (spread .copy-within .ensures) (one .multiply-out .last .0) (one .multiply-out .kept .0) (one .multiply-out .ensures) (other .multiply-out2 .last .0) (other .multiply-out2 .kept .0) (other .multiply-out2 .ensures))
     (λ c.
     let whole = c .before .before in
     let other = whole .before .before .before .before in
@@ -85,8 +85,8 @@ pub +multiply-out-spec : {M : Type 1} → statement M
     let spread = one .before .before .before .before in
     let test = spread .before .before in
     let start = test .before .before in
-    let e = spread .repeat .last .0 in
-    whole .multiply .kept .0 ∙ both-length (start .args .cells .now) (start .pre .1) (enough (start .args .cells .now) (test .if1 .left)) e (spread .repeat .kept .0) (spread .repeat .ensures) (one .multiply-out .last .0) (one .multiply-out .kept .0) (one .multiply-out .ensures) (other .multiply-out2 .last .0) (other .multiply-out2 .kept .0) (other .multiply-out2 .ensures))
+    let e = spread .copy-within .last .0 in
+    whole .multiply .kept .0 ∙ both-length (start .args .cells .now) (start .pre .1) (enough (start .args .cells .now) (test .if1 .left)) e (spread .copy-within .kept .0) (spread .copy-within .ensures) (one .multiply-out .last .0) (one .multiply-out .kept .0) (one .multiply-out .ensures) (other .multiply-out2 .last .0) (other .multiply-out2 .kept .0) (other .multiply-out2 .ensures))
     (λ c.
     let whole = c .before .before in
     let other = whole .before .before .before .before in
@@ -94,5 +94,5 @@ pub +multiply-out-spec : {M : Type 1} → statement M
     let spread = one .before .before .before .before in
     let test = spread .before .before in
     let start = test .before .before in
-    let e = spread .repeat .last .0 in
-    multiplied (start .args .cells .now) (start .pre .1) (enough (start .args .cells .now) (test .if1 .left)) e (spread .repeat .kept .0) (spread .repeat .ensures) (one .multiply-out .last .0) (one .multiply-out .kept .0) (one .multiply-out .ensures) (other .multiply-out2 .last .0) (other .multiply-out2 .kept .0) (other .multiply-out2 .ensures) _ (whole .multiply .ensures)))
+    let e = spread .copy-within .last .0 in
+    multiplied (start .args .cells .now) (start .pre .1) (enough (start .args .cells .now) (test .if1 .left)) e (spread .copy-within .kept .0) (spread .copy-within .ensures) (one .multiply-out .last .0) (one .multiply-out .kept .0) (one .multiply-out .ensures) (other .multiply-out2 .last .0) (other .multiply-out2 .kept .0) (other .multiply-out2 .ensures) _ (whole .multiply .ensures)))

@@ -6,8 +6,8 @@ use native.Mathlib.Omega.{arith}
 use borrow.Author.Needs.{needs}
 use lib.ListN.{length, getD}
 use Rattle.field.specs.Field.{product}
-use Rattle.poly.specs.Tab.{tab}
-use Rattle.poly.proofs.Window.{window, window-none, window-change, window-all}
+use Rattle.lists.specs.Tab.{tab}
+use Rattle.lists.proofs.Window.{window, window-none, window-change, window-all}
 use Rattle.transform_halving.proofs.scale.Statement.{statement}
 use Rattle.transform_halving.proofs.scale.Tie as tie
 

@@ -15,9 +15,9 @@ use Rattle.poly.proofs.Symbols.{set-symbols}
 use Rattle.transform_halving.specs.Halving.{turned, joined}
 use Rattle.transform_halving.specs.InPlace.{joinedHalves}
 use Rattle.transform_halving.proofs.Joining.{joining, joining-none, joining-even, joining-odd, joining-more, joining-all}
-use Rattle.transform_table.specs.Part.{part, replaced}
+use Rattle.lists.specs.Part.{part, replaced}
 use Rattle.transform_table.specs.Turns.{Tabled}
-use Rattle.transform_table.proofs.Part.{part-length, replaced-self, replaced-at, replaced-past, replaced-set}
+use Rattle.lists.proofs.Part.{part-length, replaced-self, replaced-at, replaced-past, replaced-set}
 use Rattle.transform_table.proofs.Turns.{turns-inside}
 use Rattle.transform_table.proofs.join_by.Statement.{statement}
 use Rattle.transform_table.proofs.join_by.Tie as tie

@@ -9,8 +9,8 @@ use borrow.Author.Needs.{needs}
 use lib.ListN.{length}
 use Rattle.field.specs.Field.{product, power}
 use Rattle.field.proofs.Ring.{power-zero, power-step}
-use Rattle.poly.specs.Tab.{tab}
-use Rattle.poly.proofs.Window.{window, window-none, window-store, window-all}
+use Rattle.lists.specs.Tab.{tab}
+use Rattle.lists.proofs.Window.{window, window-none, window-store, window-all}
 use Rattle.transform_table.proofs.lay_powers.Statement.{statement}
 use Rattle.transform_table.proofs.lay_powers.Tie as tie
 

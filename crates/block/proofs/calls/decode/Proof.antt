@@ -29,26 +29,26 @@ decode-spec =
     let measured = c .before in
     let told = measured .before in
     let start = told .before .before .before .before .before .before .before in
-    omega (arith, measured .decode-room .ensures, decode-passed (start .args .k) (start .args .n) (start .args .positions .now) (start .args .values .now) (length (start .args .out .now)) (length (start .args .work .now)) (told-done (decodeChecks (start .args .k) (start .args .n) (start .args .positions .now) (start .args .values .now) (length (start .args .out .now)) (length (start .args .work .now))) _ (told .before .before .decode-checks .ensures) (told .enum-told .given .1)) .2))
+    omega (arith, measured .decode-work .ensures, decode-passed (start .args .k) (start .args .n) (start .args .positions .now) (start .args .values .now) (length (start .args .out .now)) (length (start .args .work .now)) (told-done (decodeChecks (start .args .k) (start .args .n) (start .args .positions .now) (start .args .values .now) (length (start .args .out .now)) (length (start .args .work .now))) _ (told .before .before .decode-checks .ensures) (told .enum-told .given .1)) .2))
     (λ c κs.
     let measured = c .before .before in
     let told = measured .before in
     let start = told .before .before .before .before .before .before .before in
     let good = decode-passed (start .args .k) (start .args .n) (start .args .positions .now) (start .args .values .now) (length (start .args .out .now)) (length (start .args .work .now)) (told-done (decodeChecks (start .args .k) (start .args .n) (start .args .positions .now) (start .args .values .now) (length (start .args .out .now)) (length (start .args .work .now))) _ (told .before .before .decode-checks .ensures) (told .enum-told .given .1)) in
-    (good .0, good .1, lent-length _ _ _ (measured .decode-room .ensures) (good .2)))
+    (good .0, good .1, lent-length _ _ _ (measured .decode-work .ensures) (good .2)))
     (λ c. search needs)
     (λ c. c .before .before .before .before .recover .kept .1 .1 .1 .1 .0)
     (λ c.
     let recovered = c .before .before .before .before in
     let measured = recovered .before .before .before in
-    length-front {A = ℕ} (measured .before .before .before .before .before .before .before .before .args .work .now) (recovered .recover .last .1 .1 .1 .1 .1 .0) (measured .decode-room .result - 0) (recovered .recover .kept .1 .1 .1 .1 .1 .0))
+    length-front {A = ℕ} (measured .before .before .before .before .before .before .before .before .args .work .now) (recovered .recover .last .1 .1 .1 .1 .1 .0) (measured .decode-work .result - 0) (recovered .recover .kept .1 .1 .1 .1 .1 .0))
     (λ c.
     let recovered = c .before .before .before .before in
     let measured = recovered .before .before .before in
     let told = measured .before in
     let start = told .before .before .before .before .before .before .before in
     let passed = told-done (decodeChecks (start .args .k) (start .args .n) (start .args .positions .now) (start .args .values .now) (length (start .args .out .now)) (length (start .args .work .now))) _ (told .before .before .decode-checks .ensures) (told .enum-told .given .1) in
-    decoded-whole (start .args .n) _ (decodeOf (start .args .k) (start .args .n) (held (start .args .positions .now) (start .args .values .now))) _ (start .args .out .now) (start .args .work .now) _ _ (measured .decode-room .ensures) (decode-passed (start .args .k) (start .args .n) (start .args .positions .now) (start .args .values .now) (length (start .args .out .now)) (length (start .args .work .now)) passed .2) (recovered .recover .ensures)
+    decoded-whole (start .args .n) _ (decodeOf (start .args .k) (start .args .n) (held (start .args .positions .now) (start .args .values .now))) _ (start .args .out .now) (start .args .work .now) _ _ (measured .decode-work .ensures) (decode-passed (start .args .k) (start .args .n) (start .args .positions .now) (start .args .values .now) (length (start .args .out .now)) (length (start .args .work .now)) passed .2) (recovered .recover .ensures)
     ∙ leaves-done (decodeChecks (start .args .k) (start .args .n) (start .args .positions .now) (start .args .values .now) (length (start .args .out .now)) (length (start .args .work .now))) _ _ _ passed)
     (λ c.
     let known = c .before in

@@ -29,19 +29,19 @@ encode-spec =
     let measured = c .before in
     let told = measured .before in
     let start = told .before .before .before .before .before .before in
-    omega (arith, measured .encode-room .ensures, encode-passed (start .args .k) (start .args .n) (start .args .message .now) (length (start .args .out .now)) (length (start .args .work .now)) (told-done (encodeChecks (start .args .k) (start .args .n) (start .args .message .now) (length (start .args .out .now)) (length (start .args .work .now))) _ (told .before .before .encode-checks .ensures) (told .enum-told .given .1)) .3))
+    omega (arith, measured .encode-work .ensures, encode-passed (start .args .k) (start .args .n) (start .args .message .now) (length (start .args .out .now)) (length (start .args .work .now)) (told-done (encodeChecks (start .args .k) (start .args .n) (start .args .message .now) (length (start .args .out .now)) (length (start .args .work .now))) _ (told .before .before .encode-checks .ensures) (told .enum-told .given .1)) .3))
     (λ c κs.
     let measured = c .before .before in
     let told = measured .before in
     let start = told .before .before .before .before .before .before in
     let good = encode-passed (start .args .k) (start .args .n) (start .args .message .now) (length (start .args .out .now)) (length (start .args .work .now)) (told-done (encodeChecks (start .args .k) (start .args .n) (start .args .message .now) (length (start .args .out .now)) (length (start .args .work .now))) _ (told .before .before .encode-checks .ensures) (told .enum-told .given .1)) in
-    (good .0, good .2, lent-length _ _ _ (measured .encode-room .ensures) (good .3)))
+    (good .0, good .2, lent-length _ _ _ (measured .encode-work .ensures) (good .3)))
     (λ c. search needs)
     (λ c. c .before .before .before .before .spread .kept .1 .1 .0)
     (λ c.
     let spread = c .before .before .before .before in
     let measured = spread .before .before .before in
-    length-front {A = ℕ} (measured .before .before .before .before .before .before .before .args .work .now) (spread .spread .last .1 .1 .1 .0) (measured .encode-room .result - 0) (spread .spread .kept .1 .1 .1 .0))
+    length-front {A = ℕ} (measured .before .before .before .before .before .before .before .args .work .now) (spread .spread .last .1 .1 .1 .0) (measured .encode-work .result - 0) (spread .spread .kept .1 .1 .1 .0))
     (λ c.
     let spread = c .before .before .before .before in
     let measured = spread .before .before .before in
@@ -49,7 +49,7 @@ encode-spec =
     let start = told .before .before .before .before .before .before in
     let passed = told-done (encodeChecks (start .args .k) (start .args .n) (start .args .message .now) (length (start .args .out .now)) (length (start .args .work .now))) _ (told .before .before .encode-checks .ensures) (told .enum-told .given .1) in
     ap₂ (leaving (result [])) (spread .spread .ensures .0)
-    (zeroed-part _ _ (start .args .work .now) (measured .encode-room .ensures) (encode-passed (start .args .k) (start .args .n) (start .args .message .now) (length (start .args .out .now)) (length (start .args .work .now)) passed .3) _ (spread .spread .ensures .1))
+    (zeroed-part _ _ (start .args .work .now) (measured .encode-work .ensures) (encode-passed (start .args .k) (start .args .n) (start .args .message .now) (length (start .args .out .now)) (length (start .args .work .now)) passed .3) _ (spread .spread .ensures .1))
     ∙ leaves-done (encodeChecks (start .args .k) (start .args .n) (start .args .message .now) (length (start .args .out .now)) (length (start .args .work .now))) _ _ _ passed)
     (λ c.
     let known = c .before in

@@ -20,7 +20,7 @@ use Rattle.block.specs.Checks.{decodeChecks}
 use Rattle.code.specs.Held.{held}
 use Rattle.code.specs.Positions.{Inside, firstOutside}
 use Rattle.code.specs.Repeats.{firstRepeat}
-use Rattle.code.specs.Rooms.{decodeRoom}
+use Rattle.code.specs.Rooms.{decodeWork}
 use Rattle.code_positions.proofs.Outside.{outside-none}
 use Rattle.block.proofs.checks.decode_checks.Statement.{statement}
 use Rattle.block.proofs.checks.decode_checks.Tie as tie
@@ -48,7 +48,7 @@ module _ (k n : ℕ) (positions values : List ℕ) (out work : ℕ) where
   at-length shape unequal = goes-on Shape _ shape (stops Length _ (ap not (ne-eqb _ _ unequal)))
 
   -- stated and short are what the calls gave that work the room out and compare it
-  to-room : {a : Answer} (stated : ℕ) (short : Bool) → stated ≡ decodeRoom n → short ≡ ltb out k || ltb work stated → badShape k n ≡ false
+  to-room : {a : Answer} (stated : ℕ) (short : Bool) → stated ≡ decodeWork n → short ≡ ltb out k || ltb work stated → badShape k n ≡ false
       → length positions ≡ length values → a ≡ refuseIf short Room from-few → a ≡ decodeChecks k n positions values out work
   unfolding decodeChecks held from-few from-position from-repeat from-value
   to-room stated short room is shape paired rest =
@@ -56,11 +56,11 @@ module _ (k n : ℕ) (positions values : List ℕ) (out work : ℕ) where
       (goes-on Length _ (ap not (eq-eqb _ _ paired))
       (rest ∙ ap (λ (b : Bool). refuseIf b Room from-few) (is ∙ ap (λ (m : ℕ). ltb out k || ltb work m) room)))
 
-  at-room : (stated : ℕ) (short : Bool) → stated ≡ decodeRoom n → short ≡ ltb out k || ltb work stated → badShape k n ≡ false
+  at-room : (stated : ℕ) (short : Bool) → stated ≡ decodeWork n → short ≡ ltb out k || ltb work stated → badShape k n ≡ false
       → length positions ≡ length values → short ≡ true → refused Room ≡ decodeChecks k n positions values out work
   at-room stated short room is shape paired bad = to-room stated short room is shape paired (stops Room _ bad)
 
-  past-room : {a : Answer} (stated : ℕ) (short : Bool) → stated ≡ decodeRoom n → short ≡ ltb out k || ltb work stated → badShape k n ≡ false
+  past-room : {a : Answer} (stated : ℕ) (short : Bool) → stated ≡ decodeWork n → short ≡ ltb out k || ltb work stated → badShape k n ≡ false
       → length positions ≡ length values → short ≡ false → a ≡ from-few → a ≡ decodeChecks k n positions values out work
   past-room stated short room is shape paired roomy rest = to-room stated short room is shape paired (goes-on Room _ roomy rest)
 
@@ -112,18 +112,18 @@ decode-checks-spec =
     (λ c κs. search needs)
     (λ c.
     let measured = c .before .before in
-    at-room _ _ _ _ _ _ _ _ (measured .decode-room .ensures) (c .before .too-short .ensures) (sym (measured .before .before .before .bad-shape .ensures) ∙ measured .before .before .if1 .left) (measured .before .if2 .left)
+    at-room _ _ _ _ _ _ _ _ (measured .decode-work .ensures) (c .before .too-short .ensures) (sym (measured .before .before .before .bad-shape .ensures) ∙ measured .before .before .if1 .left) (measured .before .if2 .left)
     (c .if3 .taken))
     (λ c.
     let roomy = c .before in
     let measured = roomy .before .before in
-    past-room _ _ _ _ _ _ _ _ (measured .decode-room .ensures) (roomy .before .too-short .ensures) (sym (measured .before .before .before .bad-shape .ensures) ∙ measured .before .before .if1 .left) (measured .before .if2 .left) (roomy .if3 .left)
+    past-room _ _ _ _ _ _ _ _ (measured .decode-work .ensures) (roomy .before .too-short .ensures) (sym (measured .before .before .before .bad-shape .ensures) ∙ measured .before .before .if1 .left) (measured .before .if2 .left) (roomy .if3 .left)
     (at-few _ _ _ _ _ _ (c .if4 .taken)))
     (λ c κs. search needs)
     (λ c.
     let roomy = c .before .before .before in
     let measured = roomy .before .before in
-    past-room _ _ _ _ _ _ _ _ (measured .decode-room .ensures) (roomy .before .too-short .ensures) (sym (measured .before .before .before .bad-shape .ensures) ∙ measured .before .before .if1 .left) (measured .before .if2 .left) (roomy .if3 .left)
+    past-room _ _ _ _ _ _ _ _ (measured .decode-work .ensures) (roomy .before .too-short .ensures) (sym (measured .before .before .before .bad-shape .ensures) ∙ measured .before .before .if1 .left) (measured .before .if2 .left) (roomy .if3 .left)
     (to-few _ _ _ _ _ _ (c .before .before .if4 .left)
     (at-position _ _ _ _ _ _ _ (c .before .first-outside .ensures) (c .if5 .taken))))
     (λ c κs.
@@ -133,7 +133,7 @@ decode-checks-spec =
     let outside = c .before .before in
     let roomy = c .before .before .before .before .before in
     let measured = roomy .before .before in
-    past-room _ _ _ _ _ _ _ _ (measured .decode-room .ensures) (roomy .before .too-short .ensures) (sym (measured .before .before .before .bad-shape .ensures) ∙ measured .before .before .if1 .left) (measured .before .if2 .left) (roomy .if3 .left)
+    past-room _ _ _ _ _ _ _ _ (measured .decode-work .ensures) (roomy .before .too-short .ensures) (sym (measured .before .before .before .bad-shape .ensures) ∙ measured .before .before .if1 .left) (measured .before .if2 .left) (roomy .if3 .left)
     (to-few _ _ _ _ _ _ (outside .before .before .if4 .left)
     (to-position _ _ _ _ _ _ _ (outside .before .first-outside .ensures) (outside .if5 .left)
     (at-repeat _ _ _ _ _ _ _ (c .before .first-repeat .ensures) (c .if6 .taken)))))
@@ -143,7 +143,7 @@ decode-checks-spec =
     let outside = repeat .before .before in
     let roomy = c .before .before .before .before .before .before .before in
     let measured = roomy .before .before in
-    past-room _ _ _ _ _ _ _ _ (measured .decode-room .ensures) (roomy .before .too-short .ensures) (sym (measured .before .before .before .bad-shape .ensures) ∙ measured .before .before .if1 .left) (measured .before .if2 .left) (roomy .if3 .left)
+    past-room _ _ _ _ _ _ _ _ (measured .decode-work .ensures) (roomy .before .too-short .ensures) (sym (measured .before .before .before .bad-shape .ensures) ∙ measured .before .before .if1 .left) (measured .before .if2 .left) (roomy .if3 .left)
     (to-few _ _ _ _ _ _ (outside .before .before .if4 .left)
     (to-position _ _ _ _ _ _ _ (outside .before .first-outside .ensures) (outside .if5 .left)
     (to-repeat _ _ _ _ _ _ _ (repeat .before .first-repeat .ensures) (repeat .if6 .left)
@@ -153,7 +153,7 @@ decode-checks-spec =
     let outside = repeat .before .before in
     let roomy = c .before .before .before .before .before .before .before in
     let measured = roomy .before .before in
-    past-room _ _ _ _ _ _ _ _ (measured .decode-room .ensures) (roomy .before .too-short .ensures) (sym (measured .before .before .before .bad-shape .ensures) ∙ measured .before .before .if1 .left) (measured .before .if2 .left) (roomy .if3 .left)
+    past-room _ _ _ _ _ _ _ _ (measured .decode-work .ensures) (roomy .before .too-short .ensures) (sym (measured .before .before .before .bad-shape .ensures) ∙ measured .before .before .if1 .left) (measured .before .if2 .left) (roomy .if3 .left)
     (to-few _ _ _ _ _ _ (outside .before .before .if4 .left)
     (to-position _ _ _ _ _ _ _ (outside .before .first-outside .ensures) (outside .if5 .left)
     (to-repeat _ _ _ _ _ _ _ (repeat .before .first-repeat .ensures) (repeat .if6 .left)

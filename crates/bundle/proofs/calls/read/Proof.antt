@@ -12,7 +12,7 @@ use Rattle.bundle_layout.specs.Fields.{blocksIn}
 use Rattle.bundle_layout.proofs.Passing.{header-inside}
 use Rattle.bundle.specs.Checks.{readChecks}
 use Rattle.bundle_read.specs.Reading.{blocksAnswer}
-use Rattle.bundle_layout.specs.Rooms.{workRoom}
+use Rattle.bundle_layout.specs.Rooms.{bundleWork}
 use Rattle.bundle.proofs.Passing.{read-passed}
 use Rattle.bundle.proofs.ReadLeaving.{blocks-whole}
 use Rattle.bundle.proofs.calls.read.Statement.{statement}
@@ -32,18 +32,18 @@ read-spec =
     (λ c. let start = c .before .before .before .before .before .before .before .before .before in omega (arith, c .before .before .length-in .ensures .0, (read-passed (start .args .bundle .now) (length (start .args .out .now)) (length (start .args .work .now)) (told-done (readChecks (start .args .bundle .now) (length (start .args .out .now)) (length (start .args .work .now))) _ (c .before .before .before .before .before .read-checks .ensures) (c .before .before .before .enum-told .given .1))) .1))
     (λ c. search needs)
     (λ c. search needs)
-    (λ c. let start = c .before .before .before .before .before .before .before .before .before .before in omega (arith, (c .before .work-room .ensures ∙ ap workRoom (c .before .before .n-in .ensures .0)), (read-passed (start .args .bundle .now) (length (start .args .out .now)) (length (start .args .work .now)) (told-done (readChecks (start .args .bundle .now) (length (start .args .out .now)) (length (start .args .work .now))) _ (c .before .before .before .before .before .before .read-checks .ensures) (c .before .before .before .before .enum-told .given .1))) .2))
+    (λ c. let start = c .before .before .before .before .before .before .before .before .before .before in omega (arith, (c .before .bundle-work .ensures ∙ ap bundleWork (c .before .before .n-in .ensures .0)), (read-passed (start .args .bundle .now) (length (start .args .out .now)) (length (start .args .work .now)) (told-done (readChecks (start .args .bundle .now) (length (start .args .out .now)) (length (start .args .work .now))) _ (c .before .before .before .before .before .before .read-checks .ensures) (c .before .before .before .before .enum-told .given .1))) .2))
     (λ c κs.
     let start = c .before .before .before .before .before .before .before .before .before .before .before in
     let good = (read-passed (start .args .bundle .now) (length (start .args .out .now)) (length (start .args .work .now)) (told-done (readChecks (start .args .bundle .now) (length (start .args .out .now)) (length (start .args .work .now))) _ (c .before .before .before .before .before .before .before .read-checks .ensures) (c .before .before .before .before .before .enum-told .given .1))) in
-    (good .0, good .3, lent-length _ _ (start .args .out .now) (c .before .before .before .before .length-in .ensures .0) (good .1), lent-length _ _ (start .args .work .now) (c .before .before .work-room .ensures ∙ ap workRoom (c .before .before .before .n-in .ensures .0)) (good .2)))
+    (good .0, good .3, lent-length _ _ (start .args .out .now) (c .before .before .before .before .length-in .ensures .0) (good .1), lent-length _ _ (start .args .work .now) (c .before .before .bundle-work .ensures ∙ ap bundleWork (c .before .before .before .n-in .ensures .0)) (good .2)))
     (λ c. search needs)
     (λ c. let start = c .before .before .before .before .before .before .before .before .before .before .before .before .before .before .before .before in length-front {A = ℕ} (start .args .out .now) (c .before .before .before .before .read-all .last .1 .0) (c .before .before .before .before .before .before .before .before .before .length-in .result - 0) (c .before .before .before .before .read-all .kept .1 .0))
-    (λ c. let start = c .before .before .before .before .before .before .before .before .before .before .before .before .before .before .before .before in length-front {A = ℕ} (start .args .work .now) (c .before .before .before .before .read-all .last .1 .1 .0) (c .before .before .before .before .before .before .before .work-room .result - 0) (c .before .before .before .before .read-all .kept .1 .1 .0))
+    (λ c. let start = c .before .before .before .before .before .before .before .before .before .before .before .before .before .before .before .before in length-front {A = ℕ} (start .args .work .now) (c .before .before .before .before .read-all .last .1 .1 .0) (c .before .before .before .before .before .before .before .bundle-work .result - 0) (c .before .before .before .before .read-all .kept .1 .1 .0))
     (λ c.
     let start = c .before .before .before .before .before .before .before .before .before .before .before .before .before .before .before .before in
     let good = (read-passed (start .args .bundle .now) (length (start .args .out .now)) (length (start .args .work .now)) (told-done (readChecks (start .args .bundle .now) (length (start .args .out .now)) (length (start .args .work .now))) _ (c .before .before .before .before .before .before .before .before .before .before .before .before .read-checks .ensures) (c .before .before .before .before .before .before .before .before .before .before .enum-told .given .1))) in
-    blocks-whole (start .args .bundle .now) (blocksAnswer (start .args .bundle .now) 0 (blocksIn (start .args .bundle .now))) _ _ _ (start .args .out .now) (start .args .work .now) (c .before .before .before .before .read-all .last .1 .0) (c .before .before .before .before .read-all .last .1 .1 .0) (c .before .before .before .before .before .before .before .before .before .length-in .ensures .0) (c .before .before .before .before .before .before .before .work-room .ensures ∙ ap workRoom (c .before .before .before .before .before .before .before .before .n-in .ensures .0)) (good .1) (good .2) (c .before .before .before .before .read-all .ensures)
+    blocks-whole (start .args .bundle .now) (blocksAnswer (start .args .bundle .now) 0 (blocksIn (start .args .bundle .now))) _ _ _ (start .args .out .now) (start .args .work .now) (c .before .before .before .before .read-all .last .1 .0) (c .before .before .before .before .read-all .last .1 .1 .0) (c .before .before .before .before .before .before .before .before .before .length-in .ensures .0) (c .before .before .before .before .before .before .before .bundle-work .ensures ∙ ap bundleWork (c .before .before .before .before .before .before .before .before .n-in .ensures .0)) (good .1) (good .2) (c .before .before .before .before .read-all .ensures)
     ∙ leaves-done (readChecks (start .args .bundle .now) (length (start .args .out .now)) (length (start .args .work .now))) _ _ _ (told-done (readChecks (start .args .bundle .now) (length (start .args .out .now)) (length (start .args .work .now))) _ (c .before .before .before .before .before .before .before .before .before .before .before .before .read-checks .ensures) (c .before .before .before .before .before .before .before .before .before .before .enum-told .given .1)))
     (λ c.
     let start = c .before .before .before .before .before .before .before in

@@ -36,26 +36,26 @@ write-spec =
     let measured = c .before in
     let told = measured .before in
     let start = told .before .before .before .before .before .before in
-    omega (arith, measured .work-room .ensures, write-passed (start .args .k) (start .args .n) (length (start .args .file .now)) (length (start .args .out .now)) (length (start .args .work .now)) (told-done (writeChecks (start .args .k) (start .args .n) (length (start .args .file .now)) (length (start .args .out .now)) (length (start .args .work .now))) _ (told .before .before .write-checks .ensures) (told .enum-told .given .1)) .2))
+    omega (arith, measured .bundle-work .ensures, write-passed (start .args .k) (start .args .n) (length (start .args .file .now)) (length (start .args .out .now)) (length (start .args .work .now)) (told-done (writeChecks (start .args .k) (start .args .n) (length (start .args .file .now)) (length (start .args .out .now)) (length (start .args .work .now))) _ (told .before .before .write-checks .ensures) (told .enum-told .given .1)) .2))
     (λ c κs.
     let measured = c .before .before in
     let told = measured .before in
     let start = told .before .before .before .before .before .before in
     let good = write-passed (start .args .k) (start .args .n) (length (start .args .file .now)) (length (start .args .out .now)) (length (start .args .work .now)) (told-done (writeChecks (start .args .k) (start .args .n) (length (start .args .file .now)) (length (start .args .out .now)) (length (start .args .work .now))) _ (told .before .before .write-checks .ensures) (told .enum-told .given .1)) in
-    (good .0, good .1, lent-length _ _ _ (measured .work-room .ensures) (good .2)))
+    (good .0, good .1, lent-length _ _ _ (measured .bundle-work .ensures) (good .2)))
     (λ c. search needs)
     (λ c. c .before .before .before .before .write-all .kept .1 .1 .1 .0)
     (λ c.
     let all = c .before .before .before .before in
     let measured = all .before .before .before in
-    length-front {A = ℕ} (measured .before .before .before .before .before .before .before .args .work .now) (all .write-all .last .1 .1 .1 .1 .0) (measured .work-room .result - 0) (all .write-all .kept .1 .1 .1 .1 .0))
+    length-front {A = ℕ} (measured .before .before .before .before .before .before .before .args .work .now) (all .write-all .last .1 .1 .1 .1 .0) (measured .bundle-work .result - 0) (all .write-all .kept .1 .1 .1 .1 .0))
     (λ c.
     let all = c .before .before .before .before in
     let measured = all .before .before .before in
     let told = measured .before in
     let start = told .before .before .before .before .before .before in
     let passed = told-done (writeChecks (start .args .k) (start .args .n) (length (start .args .file .now)) (length (start .args .out .now)) (length (start .args .work .now))) _ (told .before .before .write-checks .ensures) (told .enum-told .given .1) in
-    done (fileBundle (start .args .k) (start .args .n) (start .args .file .now)) (start .args .out .now) (start .args .work .now) _ _ _ _ _ (measured .work-room .ensures) (write-passed (start .args .k) (start .args .n) (length (start .args .file .now)) (length (start .args .out .now)) (length (start .args .work .now)) passed .2) (all .write-all .ensures .0) (all .write-all .ensures .1 .0) (all .write-all .ensures .1 .1)
+    done (fileBundle (start .args .k) (start .args .n) (start .args .file .now)) (start .args .out .now) (start .args .work .now) _ _ _ _ _ (measured .bundle-work .ensures) (write-passed (start .args .k) (start .args .n) (length (start .args .file .now)) (length (start .args .out .now)) (length (start .args .work .now)) passed .2) (all .write-all .ensures .0) (all .write-all .ensures .1 .0) (all .write-all .ensures .1 .1)
     ∙ leaves-done (writeChecks (start .args .k) (start .args .n) (length (start .args .file .now)) (length (start .args .out .now)) (length (start .args .work .now))) _ _ _ passed)
     (λ c.
     let known = c .before in

@@ -13,13 +13,13 @@ use Rattle.answers.proofs.Checks.{stops, goes-on}
 use Rattle.bundle_layout.specs.Fields.{kIn, nIn, lengthIn, heldIn}
 use Rattle.bundle_layout.proofs.Passing.{header-inside}
 use Rattle.bundle.specs.Checks.{roomChecks}
-use Rattle.bundle_layout.specs.Rooms.{workRoom}
+use Rattle.bundle_layout.specs.Rooms.{bundleWork}
 use Rattle.bundle.proofs.checks.room_checks.Statement.{statement}
 use Rattle.bundle.proofs.checks.room_checks.Tie as tie
 
 -- L, n, room and short are what the calls gave that read the header, work the room out and compare it
-module _ (s : List ℕ) (out work L n room : ℕ) (short : Bool) (first : L ≡ lengthIn s) (second : n ≡ nIn s) (is : room ≡ workRoom n) (compared : short ≡ ltb out L || ltb work room) where
-  measured : (ltb out (lengthIn s) || ltb work (workRoom (nIn s))) ≡ short
+module _ (s : List ℕ) (out work L n room : ℕ) (short : Bool) (first : L ≡ lengthIn s) (second : n ≡ nIn s) (is : room ≡ bundleWork n) (compared : short ≡ ltb out L || ltb work room) where
+  measured : (ltb out (lengthIn s) || ltb work (bundleWork (nIn s))) ≡ short
   measured = cc
 
   at-room : short ≡ true → refused Room ≡ roomChecks s out work
@@ -48,13 +48,13 @@ room-checks-spec =
     (λ c κs. search needs)
     (λ c κs. search needs)
     (λ c.
-    at-room (c .before .before .before .before .before .before .args .bundle .now) _ _ _ _ _ _ (c .before .before .before .before .length-in .ensures .0) (c .before .before .before .n-in .ensures .0) (c .before .before .work-room .ensures) (c .before .too-short .ensures)
+    at-room (c .before .before .before .before .before .before .args .bundle .now) _ _ _ _ _ _ (c .before .before .before .before .length-in .ensures .0) (c .before .before .before .n-in .ensures .0) (c .before .before .bundle-work .ensures) (c .before .too-short .ensures)
     (c .if1 .taken))
     (λ c κs. header-inside _ (c .before .before .before .before .before .before .pre))
     (λ c κs. header-inside _ (c .before .before .before .before .before .before .before .pre))
     (λ c.
-    at-few (c .before .before .before .before .before .before .before .before .before .args .bundle .now) _ _ _ _ _ _ (c .before .before .before .before .before .before .before .length-in .ensures .0) (c .before .before .before .before .before .before .n-in .ensures .0) (c .before .before .before .before .before .work-room .ensures) (c .before .before .before .before .too-short .ensures)
+    at-few (c .before .before .before .before .before .before .before .before .before .args .bundle .now) _ _ _ _ _ _ (c .before .before .before .before .before .before .before .length-in .ensures .0) (c .before .before .before .before .before .before .n-in .ensures .0) (c .before .before .before .before .before .bundle-work .ensures) (c .before .before .before .before .too-short .ensures)
     (c .before .before .before .if1 .left) _ _ (c .before .before .held-in .ensures .0) (c .before .k-in .ensures .0) (c .if2 .taken))
     (λ c.
-    past-few (c .before .before .before .before .before .before .before .before .before .args .bundle .now) _ _ _ _ _ _ (c .before .before .before .before .before .before .before .length-in .ensures .0) (c .before .before .before .before .before .before .n-in .ensures .0) (c .before .before .before .before .before .work-room .ensures) (c .before .before .before .before .too-short .ensures)
+    past-few (c .before .before .before .before .before .before .before .before .before .args .bundle .now) _ _ _ _ _ _ (c .before .before .before .before .before .before .before .length-in .ensures .0) (c .before .before .before .before .before .before .n-in .ensures .0) (c .before .before .before .before .before .bundle-work .ensures) (c .before .before .before .before .too-short .ensures)
     (c .before .before .before .if1 .left) _ _ (c .before .before .held-in .ensures .0) (c .before .k-in .ensures .0) (c .if2 .left)))

@@ -13,7 +13,7 @@ use Rattle.bundle_layout.specs.Blocks.{blocksOf}
 use Rattle.bundle_layout.specs.Shape.{badBundleShape}
 use Rattle.bundle_layout.proofs.Passing.{countable, measurable}
 use Rattle.bundle.specs.Checks.{writeChecks}
-use Rattle.bundle_layout.specs.Rooms.{writeRoom, workRoom}
+use Rattle.bundle_layout.specs.Rooms.{writeOut, bundleWork}
 use Rattle.bundle.proofs.checks.write_checks.Statement.{statement}
 use Rattle.bundle.proofs.checks.write_checks.Tie as tie
 
@@ -22,8 +22,8 @@ module _ (k n L : ℕ) (bad : Bool) (judged : bad ≡ badBundleShape k n L) (goo
   -- B as the code has it
   module _ (B : ℕ) (is : B ≡ blocksOf k L) where
     -- needed, room and short are what the calls gave that work the rooms out and compare them
-    module _ (out work needed room : ℕ) (short : Bool) (first : needed ≡ writeRoom n B) (second : room ≡ workRoom n) (compared : short ≡ ltb out needed || ltb work room) where
-      measured : (ltb out (writeRoom n (blocksOf k L)) || ltb work (workRoom n)) ≡ short
+    module _ (out work needed room : ℕ) (short : Bool) (first : needed ≡ writeOut n B) (second : room ≡ bundleWork n) (compared : short ≡ ltb out needed || ltb work room) where
+      measured : (ltb out (writeOut n (blocksOf k L)) || ltb work (bundleWork n)) ≡ short
       measured = cc
 
       at-room : short ≡ true → refused Room ≡ writeChecks k n L out work
@@ -46,8 +46,8 @@ write-checks-spec =
     (λ c κs. search needs)
     (λ c κs. search needs)
     (λ c.
-    at-room _ _ _ _ (c .before .before .before .before .before .before .bad-bundle-shape .ensures) (c .before .before .before .before .before .if1 .left) _ (c .before .before .before .before .blocks2 .ensures) _ _ _ _ _ (c .before .before .before .write-room .ensures) (c .before .before .work-room .ensures) (c .before .too-short .ensures)
+    at-room _ _ _ _ (c .before .before .before .before .before .before .bad-bundle-shape .ensures) (c .before .before .before .before .before .if1 .left) _ (c .before .before .before .before .blocks2 .ensures) _ _ _ _ _ (c .before .before .before .write-out .ensures) (c .before .before .bundle-work .ensures) (c .before .too-short .ensures)
     (c .if2 .taken))
     (λ c.
-    past-room _ _ _ _ (c .before .before .before .before .before .before .bad-bundle-shape .ensures) (c .before .before .before .before .before .if1 .left) _ (c .before .before .before .before .blocks2 .ensures) _ _ _ _ _ (c .before .before .before .write-room .ensures) (c .before .before .work-room .ensures) (c .before .too-short .ensures)
+    past-room _ _ _ _ (c .before .before .before .before .before .before .bad-bundle-shape .ensures) (c .before .before .before .before .before .if1 .left) _ (c .before .before .before .before .blocks2 .ensures) _ _ _ _ _ (c .before .before .before .write-out .ensures) (c .before .before .bundle-work .ensures) (c .before .too-short .ensures)
     (c .if2 .left)))

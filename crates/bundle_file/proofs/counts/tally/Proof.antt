@@ -6,7 +6,7 @@ use Prim.Native.Nat.{ℕ, _+_, _*_, _-_, _<_, _≤_}
 use native.Mathlib.Omega.{arith}
 use borrow.Author.Needs.{needs}
 use lib.ListN.{length, getD}
-use Rattle.poly.proofs.Window.{window, window-none, window-store, window-before, window-at, window-past}
+use Rattle.lists.proofs.Window.{window, window-none, window-store, window-before, window-at, window-past}
 use Rattle.bundle_file.specs.Counts.{tallied}
 use Rattle.bundle_file.proofs.counts.tally.Statement.{statement}
 use Rattle.bundle_file.proofs.counts.tally.Tie as tie

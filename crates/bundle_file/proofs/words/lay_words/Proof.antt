@@ -7,8 +7,8 @@ use native.Mathlib.Omega.{arith}
 use borrow.Author.Needs.{needs}
 use lib.ListN.{length}
 use Rattle.bundle_storage.specs.Bytes.{twoAt}
-use Rattle.poly.specs.Tab.{tab}
-use Rattle.poly.proofs.Window.{window, window-none, window-store, window-all}
+use Rattle.lists.specs.Tab.{tab}
+use Rattle.lists.proofs.Window.{window, window-none, window-store, window-all}
 use Rattle.bundle_file.proofs.words.lay_words.Statement.{statement}
 use Rattle.bundle_file.proofs.words.lay_words.Tie as tie
 

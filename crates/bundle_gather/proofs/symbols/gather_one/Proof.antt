@@ -45,7 +45,7 @@ gather-one-spec =
     (λ c. let start = c .before .before .before .before .before .before .before .before .before .before .before in omega (arith, shadow-inside (start .args .bundle .now) (start .pre .0 .0) (start .args .size) (start .args .t) (start .args .cells .now) (start .pre .0 .3) (start .pre .0 .2) (start .pre .1 .0 .long), place-inside (start .args .bundle .now) (start .pre .0 .0) (start .args .b) (start .args .t) (start .args .size) (start .args .cells .now) (start .pre .0 .2) (start .pre .0 .3) (start .pre .1 .0) _ (c .before .before .before .wide3 .ensures)))
     (λ c. let start = c .before .before .before .before .before .before .before .before .before .before .before in omega (arith, shadow-inside (start .args .bundle .now) (start .pre .0 .0) (start .args .size) (start .args .t) (start .args .cells .now) (start .pre .0 .3) (start .pre .0 .2) (start .pre .1 .0 .long), place-inside (start .args .bundle .now) (start .pre .0 .0) (start .args .b) (start .args .t) (start .args .size) (start .args .cells .now) (start .pre .0 .2) (start .pre .0 .3) (start .pre .1 .0) _ (c .before .before .before .wide3 .ensures)))
     (λ c κs. let start = c .before .before .before .before .before .before .before .before .before .before .before in omega (arith, c .before .before .before .before .before .wide2 .ensures, start .pre .1 .1, cursor-small (start .args .bundle .now) (start .pre .0 .0) (start .args .t) (start .pre .0 .2) (λ i h. omega (arith, c .before .before .before .before .before .before .before .before .before .before .shared-slice-known .given i)) (start .args .b)))
-    (λ c. let start = c .before .before .before .before .before .before .before .before .before .before .before .before in omega (arith, moved-on (start .args .bundle .now) (start .args .b) (start .args .t) _ (c .cursor-after .ensures _ _ _ (start .args .b) _ (start .args .bundle .now) (λ i h. omega (arith, c .before .before .before .before .before .before .before .before .before .before .before .shared-slice-known .given i)) (placed-read (start .args .bundle .now) (start .pre .0 .0) (start .args .b) (start .args .t) (start .args .size) (start .args .cells .now) (start .pre .0 .2) (start .pre .0 .3) (start .pre .1 .0) _ (c .before .before .before .before .wide3 .ensures) _ _ (c .before .before .before .before .before .before .before .before .wide .ensures) (c .before .before .before .before .before .before .wide2 .ensures) (start .pre .1 .1) (start .pre .0 .1)) (c .before .before .before .symbol-at .ensures _ _ _ (placed-read (start .args .bundle .now) (start .pre .0 .0) (start .args .b) (start .args .t) (start .args .size) (start .args .cells .now) (start .pre .0 .2) (start .pre .0 .3) (start .pre .1 .0) _ (c .before .before .before .before .wide3 .ensures) _ _ (c .before .before .before .before .before .before .before .before .wide .ensures) (c .before .before .before .before .before .before .wide2 .ensures) (start .pre .1 .1) (start .pre .0 .1)))), cursor-small (start .args .bundle .now) (start .pre .0 .0) (start .args .t) (start .pre .0 .2) (λ i h. omega (arith, c .before .before .before .before .before .before .before .before .before .before .before .shared-slice-known .given i)) (suc (start .args .b))))
+    (λ c. let start = c .before .before .before .before .before .before .before .before .before .before .before .before in omega (arith, moved-on (start .args .bundle .now) (start .args .b) (start .args .t) _ (c .cursor-after .ensures _ _ _ (start .args .b) _ (start .args .bundle .now) (λ i h. omega (arith, c .before .before .before .before .before .before .before .before .before .before .before .shared-slice-known .given i)) (placed-read (start .args .bundle .now) (start .pre .0 .0) (start .args .b) (start .args .t) (start .args .size) (start .args .cells .now) (start .pre .0 .2) (start .pre .0 .3) (start .pre .1 .0) _ (c .before .before .before .before .wide3 .ensures) _ _ (c .before .before .before .before .before .before .before .before .wide .ensures) (c .before .before .before .before .before .before .wide2 .ensures) (start .pre .1 .1) (start .pre .0 .1)) (c .before .before .before .symbol-in .ensures _ _ _ (placed-read (start .args .bundle .now) (start .pre .0 .0) (start .args .b) (start .args .t) (start .args .size) (start .args .cells .now) (start .pre .0 .2) (start .pre .0 .3) (start .pre .1 .0) _ (c .before .before .before .before .wide3 .ensures) _ _ (c .before .before .before .before .before .before .before .before .wide .ensures) (c .before .before .before .before .before .before .wide2 .ensures) (start .pre .1 .1) (start .pre .0 .1)))), cursor-small (start .args .bundle .now) (start .pre .0 .0) (start .args .t) (start .pre .0 .2) (λ i h. omega (arith, c .before .before .before .before .before .before .before .before .before .before .before .shared-slice-known .given i)) (suc (start .args .b))))
     (λ c. let start = c .before .before .before .before .before .before .before .before .before .before .before .before in omega (arith, shadow-inside (start .args .bundle .now) (start .pre .0 .0) (start .args .size) (start .args .t) (start .args .cells .now) (start .pre .0 .3) (start .pre .0 .2) (start .pre .1 .0 .long)))
     (λ c. let start = c .before .before .before .before .before .before .before .before .before .before .before .before in omega (arith, shadow-inside (start .args .bundle .now) (start .pre .0 .0) (start .args .size) (start .args .t) (start .args .cells .now) (start .pre .0 .3) (start .pre .0 .2) (start .pre .1 .0 .long)))
     (λ c. let start = c .before .before .before .before .before .before .before .before .before .before .before .before in omega (arith, shadow-inside (start .args .bundle .now) (start .pre .0 .0) (start .args .size) (start .args .t) (start .args .cells .now) (start .pre .0 .3) (start .pre .0 .2) (start .pre .1 .0 .long)))
@@ -53,4 +53,4 @@ gather-one-spec =
     (λ c. search needs)
     (λ c.
     let start = c .before .before .before .before .before .before .before .before .before .before .before .before in
-    stored-one (start .args .bundle .now) (start .pre .0 .0) (start .args .b) (start .args .t) (start .args .size) (start .args .cells .now) (start .pre .0 .2) (start .pre .0 .3) (start .pre .1 .0) _ (c .before .before .before .before .wide3 .ensures) _ _ _ (c .before .before .before .symbol-at .ensures _ _ _ (placed-read (start .args .bundle .now) (start .pre .0 .0) (start .args .b) (start .args .t) (start .args .size) (start .args .cells .now) (start .pre .0 .2) (start .pre .0 .3) (start .pre .1 .0) _ (c .before .before .before .before .wide3 .ensures) _ _ (c .before .before .before .before .before .before .before .before .wide .ensures) (c .before .before .before .before .before .before .wide2 .ensures) (start .pre .1 .1) (start .pre .0 .1))) (c .before .product .ensures .is) (moved-on (start .args .bundle .now) (start .args .b) (start .args .t) _ (c .cursor-after .ensures _ _ _ (start .args .b) _ (start .args .bundle .now) (λ i h. omega (arith, c .before .before .before .before .before .before .before .before .before .before .before .shared-slice-known .given i)) (placed-read (start .args .bundle .now) (start .pre .0 .0) (start .args .b) (start .args .t) (start .args .size) (start .args .cells .now) (start .pre .0 .2) (start .pre .0 .3) (start .pre .1 .0) _ (c .before .before .before .before .wide3 .ensures) _ _ (c .before .before .before .before .before .before .before .before .wide .ensures) (c .before .before .before .before .before .before .wide2 .ensures) (start .pre .1 .1) (start .pre .0 .1)) (c .before .before .before .symbol-at .ensures _ _ _ (placed-read (start .args .bundle .now) (start .pre .0 .0) (start .args .b) (start .args .t) (start .args .size) (start .args .cells .now) (start .pre .0 .2) (start .pre .0 .3) (start .pre .1 .0) _ (c .before .before .before .before .wide3 .ensures) _ _ (c .before .before .before .before .before .before .before .before .wide .ensures) (c .before .before .before .before .before .before .wide2 .ensures) (start .pre .1 .1) (start .pre .0 .1)))))))
+    stored-one (start .args .bundle .now) (start .pre .0 .0) (start .args .b) (start .args .t) (start .args .size) (start .args .cells .now) (start .pre .0 .2) (start .pre .0 .3) (start .pre .1 .0) _ (c .before .before .before .before .wide3 .ensures) _ _ _ (c .before .before .before .symbol-in .ensures _ _ _ (placed-read (start .args .bundle .now) (start .pre .0 .0) (start .args .b) (start .args .t) (start .args .size) (start .args .cells .now) (start .pre .0 .2) (start .pre .0 .3) (start .pre .1 .0) _ (c .before .before .before .before .wide3 .ensures) _ _ (c .before .before .before .before .before .before .before .before .wide .ensures) (c .before .before .before .before .before .before .wide2 .ensures) (start .pre .1 .1) (start .pre .0 .1))) (c .before .product .ensures .is) (moved-on (start .args .bundle .now) (start .args .b) (start .args .t) _ (c .cursor-after .ensures _ _ _ (start .args .b) _ (start .args .bundle .now) (λ i h. omega (arith, c .before .before .before .before .before .before .before .before .before .before .before .shared-slice-known .given i)) (placed-read (start .args .bundle .now) (start .pre .0 .0) (start .args .b) (start .args .t) (start .args .size) (start .args .cells .now) (start .pre .0 .2) (start .pre .0 .3) (start .pre .1 .0) _ (c .before .before .before .before .wide3 .ensures) _ _ (c .before .before .before .before .before .before .before .before .wide .ensures) (c .before .before .before .before .before .before .wide2 .ensures) (start .pre .1 .1) (start .pre .0 .1)) (c .before .before .before .symbol-in .ensures _ _ _ (placed-read (start .args .bundle .now) (start .pre .0 .0) (start .args .b) (start .args .t) (start .args .size) (start .args .cells .now) (start .pre .0 .2) (start .pre .0 .3) (start .pre .1 .0) _ (c .before .before .before .before .wide3 .ensures) _ _ (c .before .before .before .before .before .before .before .before .wide .ensures) (c .before .before .before .before .before .before .wide2 .ensures) (start .pre .1 .1) (start .pre .0 .1)))))))

@@ -6,7 +6,7 @@ use Prim.Native.Nat.{ℕ, _+_, _*_, _-_, _/_}
 use native.Mathlib.Omega.{arith}
 use borrow.Author.Needs.{needs}
 use lib.ListN.{length, take, drop, length-set}
-use Rattle.poly.proofs.Window.{window, window-store}
+use Rattle.lists.proofs.Window.{window, window-store}
 use Rattle.bundle_storage.specs.Bytes.{inBytes}
 use Rattle.bundle_storage.proofs.BytesLaws.{in-bytes-length}
 use Rattle.bundle_read.proofs.MessageBytes.{laid-all, laid-full, laid-past}

@@ -6,8 +6,8 @@ use Prim.Native.Nat.{ℕ, _+_, _*_, _-_, _≤_}
 use native.Mathlib.Omega.{arith}
 use borrow.Author.Needs.{needs}
 use lib.ListN.{length, getD, take, drop}
-use Rattle.poly.specs.Tab.{tab}
-use Rattle.poly.proofs.Window.{window, window-none}
+use Rattle.lists.specs.Tab.{tab}
+use Rattle.lists.proofs.Window.{window, window-none}
 use Rattle.bundle_storage.specs.Bytes.{inBytes}
 use Rattle.bundle_read.proofs.MessageBytes.{words-more}
 use Rattle.bundle_read.proofs.bytes.lay_message.Statement.{statement}

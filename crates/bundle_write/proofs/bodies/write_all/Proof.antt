@@ -8,13 +8,13 @@ use lib.ListN.{replicate}
 use lib.Seq.{length-front}
 use Rattle.field.specs.Size.{sizeOf}
 use Rattle.answers.proofs.Leaves.{lent-length}
-use Rattle.bundle_layout.specs.Rooms.{workRoom}
+use Rattle.bundle_layout.specs.Rooms.{bundleWork}
 use Rattle.bundle_front.proofs.Bundling.{bundle-room}
 use Rattle.bundle_write.proofs.bodies.write_all.Statement.{statement}
 use Rattle.bundle_write.proofs.bodies.write_all.Tie as tie
 
 pub write-all-spec : {M : Type 1} → statement M
-unfolding workRoom
+unfolding bundleWork
 write-all-spec =
     tie.close
     (tie.spec

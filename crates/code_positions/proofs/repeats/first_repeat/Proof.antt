@@ -38,11 +38,11 @@ first-repeat-spec =
     (λ c.
     let inside = c .before .before .before .before in
     let l = inside .before .loop in
-    let found = sym (c .before .is-marked .ensures) ∙ c .if1 .taken in
+    let found = sym (c .before .is-seen .ensures) ∙ c .if1 .taken in
     omega (arith, passed-here _ (l .map) (l .i) (l .inv .1) _ (search needs) (inside .loop-test .taken) found))
     (λ c. search needs)
     (λ c κs.
-    (omega (arith, cell (c .before .before .before .before .before)), sym (c .before .before .is-marked .ensures) ∙ c .before .if1 .left))
+    (omega (arith, cell (c .before .before .before .before .before)), sym (c .before .before .is-seen .ensures) ∙ c .before .if1 .left))
     (λ c. search needs)
     (λ c. search needs)
     (λ c.
@@ -50,9 +50,9 @@ first-repeat-spec =
     let test = called .before .before in
     let inside = test .before .before .before .before in
     let l = inside .before .loop in
-    let free = sym (test .before .is-marked .ensures) ∙ test .if1 .left in (
-      called .mark .kept .0 ∙ l .inv .0,
-      rw (called .mark .ensures) (passed-more _ (l .map) (l .i) (l .inv .1) _ (search needs) (inside .loop-test .taken) free (cell inside)),
+    let free = sym (test .before .is-seen .ensures) ∙ test .if1 .left in (
+      called .note-seen .kept .0 ∙ l .inv .0,
+      rw (called .note-seen .ensures) (passed-more _ (l .map) (l .i) (l .inv .1) _ (search needs) (inside .loop-test .taken) free (cell inside)),
     ))
     (λ c.
     let l = c .before .loop in

@@ -7,8 +7,8 @@ use native.Mathlib.Nat.{zero-add}
 use native.Mathlib.Omega.{arith}
 use borrow.Author.Needs.{needs}
 use lib.ListN.{length, getD, drop, set}
-use Rattle.poly.specs.Tab.{tab}
-use Rattle.poly.proofs.Window.{window, window-none, window-store, window-past, window-length}
+use Rattle.lists.specs.Tab.{tab}
+use Rattle.lists.proofs.Window.{window, window-none, window-store, window-past, window-length}
 use Rattle.decode_prepare.proofs.vanishing.bring.Statement.{statement}
 use Rattle.decode_prepare.proofs.vanishing.bring.Tie as tie
 

@@ -7,8 +7,8 @@ use native.Mathlib.Nat.{le-of-lt}
 use native.Mathlib.Omega.{arith}
 use borrow.Author.Needs.{needs}
 use lib.ListN.{length}
-use Rattle.transform_table.specs.Part.{part}
-use Rattle.transform_table.proofs.Part.{part-length}
+use Rattle.lists.specs.Part.{part}
+use Rattle.lists.proofs.Part.{part-length}
 use Rattle.decode_prepare.proofs.Multiplying.{product-laid, rest-laid, laid-long, behind-long}
 use Rattle.decode_prepare.proofs.vanishing.lay_product.Statement.{statement}
 use Rattle.decode_prepare.proofs.vanishing.lay_product.Tie as tie

@@ -52,4 +52,4 @@ multiply-few-spec =
     let ended = moved .before .before in
     let l = ended .before .loop in
     let start = ended .before .before .before in
-    stepped-all (start .args .cells .now) (start .pre) (l .left) (l .cells) (l .inv) (ended .loop-test .left) _ (moved .repeat .ensures)))
+    stepped-all (start .args .cells .now) (start .pre) (l .left) (l .cells) (l .inv) (ended .loop-test .left) _ (moved .copy-within .ensures)))

@@ -13,9 +13,9 @@ use Rattle.field.specs.Field.{difference, product}
 use Rattle.field.specs.Symbol.{Symbols}
 use Rattle.poly.specs.Raised.{raised}
 use Rattle.poly.proofs.Raised.{raised-length, raised-at}
-use Rattle.poly.proofs.Tab.{tab-ext}
-use Rattle.poly.proofs.Window.{window, window-none, window-store, window-past, window-all}
-use Rattle.decode_product.proofs.Repeating.{part-tab}
+use Rattle.lists.proofs.Tab.{tab-ext}
+use Rattle.lists.proofs.Window.{window, window-none, window-store, window-past, window-all}
+use Rattle.decode_product.proofs.Copying.{part-tab}
 use Rattle.decode_product.proofs.singly.raise.Statement.{statement}
 use Rattle.decode_product.proofs.singly.raise.Tie as tie
 

@@ -19,4 +19,4 @@ multiply-spec =
     let second = c .before .before in
     let first = second .before .before .before .before in
     let filled = first .before .before .before .before in
-    gathered _ (filled .before .before .before .pre) _ _ _ (filled .fill .kept .0) (filled .fill .ensures) (first .repeat .ensures) (first .repeat .kept .0) (second .repeat2 .ensures)))
+    gathered _ (filled .before .before .before .pre) _ _ _ (filled .fill .kept .0) (filled .fill .ensures) (first .copy-within .ensures) (first .copy-within .kept .0) (second .copy-within2 .ensures)))

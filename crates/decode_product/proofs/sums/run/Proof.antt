@@ -1,5 +1,5 @@
 -- `decode_product::sums::run` meets its contract: at the loop's head the products of the numbers passed are added up, and j is one above the number of
--- the right list that comes next.
+-- the second list that comes next.
 -- Assumes nothing.
 use mathlib.Core.Path.{_≡_, ap, _∙_}
 use mathlib.Core.List.{List}
@@ -36,7 +36,7 @@ module _ (d : List ℕ) (from to : ℕ) (pre : TwoFactors d × (from ≤ to) × 
   bounded i h = let q : Quarters d = quarters d (pre .0) in omega (arith, q .quarter, q .short)
 
   module _ (sum i j : ℕ) (t : Turn d from to sum i j) (h : i < to) where
-    -- the right list's number
+    -- the second list's number
     other : j - 1 ≡ length d / 2 + (to + from - suc i)
     other = omega (arith, t .met, t .begun)
 

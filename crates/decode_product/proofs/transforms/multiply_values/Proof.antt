@@ -8,7 +8,7 @@ use native.Mathlib.Omega.{arith}
 use borrow.Author.Needs.{needs}
 use lib.ListN.{length, getD, take, set}
 use Rattle.field.specs.Field.{product}
-use Rattle.poly.proofs.Window.{window, window-none, window-store, window-past, window-front}
+use Rattle.lists.proofs.Window.{window, window-none, window-store, window-past, window-front}
 use Rattle.decode_product.proofs.transforms.multiply_values.Statement.{statement}
 use Rattle.decode_product.proofs.transforms.multiply_values.Tie as tie
 

@@ -1,4 +1,4 @@
--- `field::arithmetic::power` meets its contract: at the loop's head result · base ^ left is x ^ n.
+-- `field::arithmetic::power` meets its contract: at the loop's head result · base ^ left is x ^ exponent.
 -- Assumes nothing.
 use mathlib.Core.Path.{_≡_, sym, ap, _∙_}
 use mathlib.Core.Logic.{⊎-elim}

@@ -1,4 +1,4 @@
--- `field_calls::operations::power` meets its contract: it refuses the first operand above 65536, and answers what `inner::power` ensures of symbols.
+-- `field_calls::operations::power` meets its contract: it refuses the first operand above 65536, and answers what `field::power` ensures of symbols.
 -- Assumes nothing.
 use mathlib.Core.Path.{_∙_}
 use borrow.Author.Needs.{needs}

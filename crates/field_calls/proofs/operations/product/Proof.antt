@@ -1,4 +1,4 @@
--- `field_calls::operations::product` meets its contract: it refuses the first operand above 65536, and answers what `inner::product` ensures of symbols.
+-- `field_calls::operations::product` meets its contract: it refuses the first operand above 65536, and answers what `field::product` ensures of symbols.
 -- Assumes nothing.
 use mathlib.Core.Path.{_∙_}
 use borrow.Author.Needs.{needs}

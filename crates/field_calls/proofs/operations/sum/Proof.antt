@@ -1,4 +1,4 @@
--- `field_calls::operations::sum` meets its contract: it refuses the first operand above 65536, and answers what `inner::sum` ensures of symbols.
+-- `field_calls::operations::sum` meets its contract: it refuses the first operand above 65536, and answers what `field::sum` ensures of symbols.
 -- Assumes nothing.
 use mathlib.Core.Path.{_∙_}
 use borrow.Author.Needs.{needs}

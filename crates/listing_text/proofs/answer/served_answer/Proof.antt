@@ -4,7 +4,7 @@ use mathlib.Core.Path.{refl, ap, _∙_}
 use native.Mathlib.Omega.{arith}
 use borrow.Author.Needs.{needs}
 use Rattle.answers.proofs.Leaves.{lent-length}
-use Rattle.bundle_layout.specs.Rooms.{workRoom}
+use Rattle.bundle_layout.specs.Rooms.{bundleWork}
 use Rattle.bundle_layout.proofs.Passing.{header-inside}
 use Rattle.listing_text.specs.Answers.{mostN, mostLength}
 use Rattle.listing_text.proofs.Answering.{n-refused, length-refused, held-refused, blocks-judged, cells-enough}
@@ -32,12 +32,12 @@ served-answer-spec =
     (λ c κs. search needs)
     (λ c. search needs)
     (λ c. search needs)
-    (λ c. let start = c .before .before .before .before .before .before .before .before .before .before in omega (arith, start .pre .1, cells-enough _ _ (c .before .before .before .before .before .before .if1 .left) (c .work-room .ensures)))
+    (λ c. let start = c .before .before .before .before .before .before .before .before .before .before in omega (arith, start .pre .1, cells-enough _ _ (c .before .before .before .before .before .before .if1 .left) (c .bundle-work .ensures)))
     (λ c κs.
     let measured = c .before in
     let n = measured .before .before .before .before .before .before .before in
     let start = n .before .before .before in
-    (start .pre .0, omega (arith, measured .before .if3 .left, measured .before .before .k-in .ensures .0, measured .before .before .before .held-in .ensures .0), lent-length _ _ _ (measured .work-room .ensures) (omega (arith, start .pre .1, cells-enough _ _ (measured .before .before .before .before .before .before .if1 .left) (measured .work-room .ensures))) ∙ ap workRoom (n .n-in .ensures .0)))
+    (start .pre .0, omega (arith, measured .before .if3 .left, measured .before .before .k-in .ensures .0, measured .before .before .before .held-in .ensures .0), lent-length _ _ _ (measured .bundle-work .ensures) (omega (arith, start .pre .1, cells-enough _ _ (measured .before .before .before .before .before .before .if1 .left) (measured .bundle-work .ensures))) ∙ ap bundleWork (n .n-in .ensures .0)))
     (λ c. search needs)
     (λ c.
     let judged = c .before .before in

@@ -1,0 +1,4 @@
+pub mod Tab
+pub mod Window
+pub mod Every
+pub mod Part

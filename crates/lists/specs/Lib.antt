@@ -1,0 +1,3 @@
+pub mod Tab
+pub mod Every
+pub mod Part

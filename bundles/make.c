@@ -56,14 +56,14 @@ static void save(const char *path, const uint8_t *bundle, size_t length)
 static const char *what_to_change(size_t k, size_t n, size_t length)
 {
     if (k == 0)
-        return "K is 0: take 1 or more";
+        return "k is 0: take 1 or more";
     if (n > SULMIREJO_LONGEST)
-        return "N is above 4096: take 4096 or less";
+        return "n is above 4096: take 4096 or less";
     if (k > n)
-        return "K is above N: take a K up to N";
+        return "k is above n: take a k up to n";
     if (length > SULMIREJO_LONGEST_FILE)
         return "the file is longer than 1,048,576 bytes: cut it in parts";
-    return "the file makes more than 65,535 blocks of 2K bytes: take a larger K";
+    return "the file makes more than 65,535 blocks of 2k bytes: take a larger k";
 }
 
 static void report(size_t k, size_t n, const char *path, size_t length, const char *bundle_path, size_t bundle_length)
@@ -72,7 +72,7 @@ static void report(size_t k, size_t n, const char *path, size_t length, const ch
     printf("%zu shadows of the %zu bytes of %s, any %zu of which bring it back\n", n, length, path, k);
     if (n > N_SERVED || bundle_length > BUNDLE_SERVED || length > FILE_SERVED) {
         printf("the listing program will answer ROOM for it (REFUSED 3 0): ");
-        printf("it serves bundles and files of up to 24,576 bytes each, and N up to 256\n");
+        printf("it serves bundles and files of up to 24,576 bytes each, and n up to 256\n");
     }
 }
 

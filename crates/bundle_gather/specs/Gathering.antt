@@ -1,11 +1,12 @@
 -- The reader's working space, eight parts of N cells. What depends on the positions alone is worked out once for a bundle and stays for all its
 -- blocks; and each held shadow has a cursor, so that no overflow list is searched twice.
 use mathlib.Core.Path.{_≡_}
-use mathlib.Core.List.{List, _++_}
+use mathlib.Core.List.{List}
 use Prim.Native.Nat.{ℕ, zero, suc, _+_, _*_, _<_}
-use lib.ListN.{length, getD, take, drop, replicate, set}
+use lib.ListN.{length, getD, drop, replicate, set}
 use Rattle.field.specs.Field.{product, power}
 use Rattle.field.specs.Size.{sizeOf}
+use Rattle.lists.specs.Part.{replaced}
 use Rattle.lists.specs.Tab.{tab}
 use Rattle.decode_between.specs.Between.{psi}
 use Rattle.decode_divide.specs.Quotients.{InversesBetween}
@@ -49,7 +50,7 @@ withShadow s N t cells = set (set (set cells (5 * N + t) (wordsHeld s t)) (6 * N
 
 -- with the first N numbers standing from 4N on too: the weights
 abbrev pub withWeights : ℕ → List ℕ → List ℕ
-withWeights N cells = take (4 * N) cells ++ (tab N (λ j. getD cells j 0) ++ drop (4 * N + N) cells)
+withWeights N cells = replaced (4 * N) N cells (tab N (λ j. getD cells j 0))
 
 -- with what shadow t holds for block b at its position, and its cursor at the next block
 abbrev pub withSymbol : List ℕ → ℕ → ℕ → ℕ → List ℕ → List ℕ

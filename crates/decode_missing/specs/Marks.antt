@@ -2,7 +2,8 @@
 use mathlib.Core.Path.{_≡_}
 use mathlib.Core.List.{List}
 use Prim.Native.Nat.{ℕ, _*_, _<_}
-use lib.ListN.{length, getD, take, drop}
+use lib.ListN.{length, getD}
+use Rattle.lists.specs.Part.{part}
 
 -- a mark for each of the N positions, which is not 0 exactly where the position is held
 pub record Marks (N : ℕ) (positions marks : List ℕ) : Type 0 where
@@ -12,4 +13,4 @@ pub record Marks (N : ℕ) (positions marks : List ℕ) : Type 0 where
 
 -- where they stand while the missing points are looked for: in the third N of 4N cells
 abbrev pub marksAt : ℕ → List ℕ → List ℕ
-marksAt N cells = take N (drop (2 * N) cells)
+marksAt N cells = part (2 * N) N cells

@@ -1,8 +1,9 @@
 -- What the functions of this crate ask of lent cells, and where in them two lists stand that are to be multiplied.
 use mathlib.Core.Path.{_≡_}
-use mathlib.Core.List.{List, _++_}
-use Prim.Native.Nat.{ℕ, _+_, _/_, _≤_}
-use lib.ListN.{length, take, drop}
+use mathlib.Core.List.{List}
+use Prim.Native.Nat.{ℕ, _/_, _≤_}
+use lib.ListN.{length, take}
+use Rattle.lists.specs.Part.{part, replaced}
 use Rattle.field.specs.Size.{sizeOf}
 use Rattle.field.specs.Symbol.{Symbols}
 
@@ -15,7 +16,7 @@ abbrev pub firstFactor : List ℕ → List ℕ
 firstFactor d = take (length d / 4) d
 
 abbrev pub secondFactor : List ℕ → List ℕ
-secondFactor d = take (length d / 4) (drop (length d / 2) d)
+secondFactor d = part (length d / 2) (length d / 4) d
 
 pub record TwoFactors (d : List ℕ) : Type 0 where
   pub size : length d ≡ sizeOf (length d)
@@ -25,4 +26,4 @@ pub record TwoFactors (d : List ℕ) : Type 0 where
 
 -- n numbers stand at another place too
 abbrev pub copiedWithin : ℕ → ℕ → ℕ → List ℕ → List ℕ
-copiedWithin from to n d = take to d ++ (take n (drop from d) ++ drop (to + n) d)
+copiedWithin from to n d = replaced to n d (part from n d)

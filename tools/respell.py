@@ -114,6 +114,41 @@ def turn_lines(text, change):
     return "\n".join(out)
 
 
+def constructor(text):
+    """The text of a file that imports or declares the constructor `result` of an answer, with its new name."""
+    if not re.search(r"answers\.specs\.Refusals\.\{[^}]*\bresult\b", text) and "pub data Answer" not in text:
+        return text
+    lines = (line.partition("--") for line in text.split("\n"))
+    return "\n".join(re.sub(r"(?<![\w.'-])result(?![\w'-])", "the_result", code) + mark + rest for code, mark, rest in lines)
+
+
+def unnamed(m):
+    name, variable, body = m[1], m[2], m[3].strip()
+    body = re.sub(rf"(?<![\w.']){variable}(?![\w'])", "result", body) if variable != "_" else body
+    if body.startswith("(") and closes(body) == len(body) - 1:
+        body = body[1:-1]
+    return f"ensures{name} {{ {body} }}"
+
+
+def closes(text):
+    depth = 0
+    for i, c in enumerate(text):
+        depth += (c == "(") - (c == ")")
+        if depth == 0:
+            return i
+    return -1
+
+
+def clauses(text):
+    """The clauses of a source: the constructor by its new name, no λ."""
+    text = text.replace("{alone as Listing·alone}", "{alone}").replace("Listing·alone", "alone")
+    if not re.search(r"answers\.specs\.Refusals\.\{[^}]*\bresult\b", text):
+        return text
+    text = re.sub(r"(?m)^ghost use Rattle\.answers\.specs\.Refusals\.\{[^}]*", lambda m: re.sub(r"\bresult\b", "the_result", m[0]), text)
+    text = re.sub(r"(?<![\w.'])result(?= (?:\[\]|\())", "the_result", text)
+    return re.sub(r"ensures\*((?: \w+)?) \{ λ (\w+)\. ⌜(.*?)⌝ \}", unnamed, text, flags=re.S)
+
+
 def write(path, text, was):
     if text != was:
         with open(path, "w", encoding="utf-8") as f:
@@ -122,17 +157,20 @@ def write(path, text, was):
 
 def main():
     turned, own_fields = mapping(), fields()
+    of_specs = {m[2] for path in glob.glob("crates/*/specs/*.antt") for m in DECLARED.finditer(read(path))}
     for path in texts() + of_functions():
         was = read(path)
         keep = of_libraries(was)
         strict = path not in texts()
         mine = turned | LEMMAS.get(path, {})
-        write(path, turn_lines(was, lambda t: turn(t, mine, own_fields, strict, keep)), was)
-    words = {n: new for n, new in turned.items() if "-" not in n or n == "status-number"}
+        text = turn_lines(was, lambda t: turn(t, mine, own_fields, strict, keep))
+        write(path, constructor(text), was)
+    words = {n: new for n, new in turned.items() if "-" not in n or n in of_specs}
     for path in glob.glob("crates/*/src/**/*.rt", recursive=True) + glob.glob("crates/*/must-fail/*.edit"):
         was = read(path)
         mine = turned if "\nfile: specs" in was or "\nfile: proofs" in was else words
-        write(path, turn(was, mine, own_fields, False), was)
+        text = turn(was, mine, own_fields, False)
+        write(path, clauses(text) if path.endswith(".rt") else text, was)
     for path in ["README.md", "CONTRIBUTING.md", *glob.glob("docs/*.md"), *glob.glob("bundles/*.md")]:
         was = read(path)
         write(path, re.sub(r"`[^`\n]*`", lambda m: turn(m[0], turned, own_fields, False), was), was)

@@ -7,12 +7,12 @@ use Prim.Native.Nat.{ℕ, ◌<◌, ◌≤◌}
 use native.Mathlib.Omega.{arith}
 use borrow.Author.Tests.{lt-ltb, le-ltb}
 use lib.Dec.{ltb}
-use Rattle.answers.specs.Refusals.{Answer, result, refused, refuse_if}
+use Rattle.answers.specs.Refusals.{Answer, the_result, refused, refuse_if}
 use Rattle.answers.specs.declared.refusal.Refusal.{Refusal}
 use Rattle.answers.proofs.Refusals.{result_no_refusal}
 
 -- a check that did not refuse
-pub passed : (bad : Bool) (x : Refusal) (later : Answer) (vs : List ℕ) → refuse_if bad x later ≡ result vs → (bad ≡ false) × (later ≡ result vs)
+pub passed : (bad : Bool) (x : Refusal) (later : Answer) (vs : List ℕ) → refuse_if bad x later ≡ the_result vs → (bad ≡ false) × (later ≡ the_result vs)
 passed true x later vs e = absurd (result_no_refusal (sym e))
 passed false x later vs e = (refl, e)
 

@@ -7,7 +7,7 @@ use native.Mathlib.Omega.{arith}
 use lib.ListN.{length, take, drop, replicate, drop_of_length-le}
 use lib.Seq.{length-take-le}
 use Rattle.answers.specs.Leaves.{Leaves, leaving, unless_refused, zeroed, OutcomeSettled}
-use Rattle.answers.specs.Refusals.{Answer, result, refused, told_outcome}
+use Rattle.answers.specs.Refusals.{Answer, the_result, refused, told_outcome}
 use Rattle.answers.specs.declared.refusal.Outcome.{Outcome}
 use Rattle.answers.specs.declared.refusal.Outcome.TheVariants.{Done, Refused}
 use Rattle.answers.specs.declared.refusal.Refusal.{Refusal}
@@ -23,7 +23,7 @@ outcome_settled it r s l m w v p q =
 
 -- what the checks answer, where the code's outcome is known
 
-pub told_done : (a : Answer) (o : Outcome) → told_outcome o ≡ a → o ≡ Done → a ≡ result []
+pub told_done : (a : Answer) (o : Outcome) → told_outcome o ≡ a → o ≡ Done → a ≡ the_result []
 told_done a o told done = sym told ∙ ap told_outcome done
 
 pub told_refused : (a : Answer) (o : Outcome) (x : Refusal) → told_outcome o ≡ a → o ≡ Refused x → a ≡ refused x
@@ -35,7 +35,7 @@ pub leaves_refused : (a : Answer) (x : Refusal) (list work : List ℕ) (later : 
     → leaving (refused x) list work ≡ unless_refused a list work later
 leaves_refused a x list work later bad = ap (λ (b : Answer). unless_refused b list work later) (sym bad)
 
-pub leaves_done : (a : Answer) (list work : List ℕ) (later : Leaves) → a ≡ result [] → later ≡ unless_refused a list work later
+pub leaves_done : (a : Answer) (list work : List ℕ) (later : Leaves) → a ≡ the_result [] → later ≡ unless_refused a list work later
 leaves_done a list work later good = ap (λ (b : Answer). unless_refused b list work later) (sym good)
 
 -- a front part that is lent: room is how much is stated, and stated what the code worked out

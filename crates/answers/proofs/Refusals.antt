@@ -5,7 +5,7 @@ use mathlib.Core.List.{List, [], ◌∷◌}
 use Prim.Native.Nat.{ℕ, pred}
 use native.Mathlib.Omega.{arith}
 use lib.ListN.{get_or}
-use Rattle.answers.specs.Refusals.{Answer, result, refusal, refused, number_of, place_of, told_outcome}
+use Rattle.answers.specs.Refusals.{Answer, the_result, refusal, refused, number_of, place_of, told_outcome}
 use Rattle.answers.specs.declared.refusal.Outcome.{Outcome}
 use Rattle.answers.specs.declared.refusal.Outcome.TheVariants as O
 use Rattle.answers.specs.declared.refusal.Refusal.{Refusal}
@@ -31,14 +31,14 @@ named_told Form = refl
 
 -- the refusal that an answer tells; Form where it tells a result
 unfold_told : Answer → Refusal
-unfold_told (result vs) = Form
+unfold_told (the_result vs) = Form
 unfold_told (refusal n i) = named n i
 
 pub refusals_told : (x y : Refusal) → refused x ≡ refused y → x ≡ y
 unfolding unfold_told
 refusals_told x y e = sym (named_told x) ∙ ap unfold_told e ∙ named_told y
 
-pub result_no_refusal : {vs : List ℕ} {n i : ℕ} → result vs ≡ refusal n i → ⊥
+pub result_no_refusal : {vs : List ℕ} {n i : ℕ} → the_result vs ≡ refusal n i → ⊥
 result_no_refusal e = let z : ◌≡◌ {A = ℕ} 0 1 = cc in omega arith
 
 pub told_outcome_one : (r s : Outcome) → told_outcome r ≡ told_outcome s → r ≡ s

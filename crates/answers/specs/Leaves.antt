@@ -1,6 +1,6 @@
 -- What a call leaves: its answer, and every cell of the lent list that takes the result and of the lent working space.
 use Rattle.std.specs.Prelude.{◌≡◌, List, ◌++◌, ℕ, length, drop, replicate}
-use Rattle.answers.specs.Refusals.{Answer, result, refusal, told_outcome}
+use Rattle.answers.specs.Refusals.{Answer, the_result, refusal, told_outcome}
 use Rattle.answers.specs.declared.refusal.Outcome.{Outcome}
 
 pub record Leaves : Type 0 where
@@ -14,7 +14,7 @@ leaving answer list work = record { answer = answer; list = list; work = work }
 -- "On refusals 1 to 7 and 11 nothing lent is written": where the checks refuse, else what the work leaves
 abbrev pub unless_refused : Answer → List ℕ → List ℕ → Leaves → Leaves
 unless_refused (refusal n i) list work later = leaving (refusal n i) list work
-unless_refused (result vs) list work later = later
+unless_refused (the_result vs) list work later = later
 
 -- "the output holds the result at its front and is untouched after it"
 abbrev pub written : List ℕ → List ℕ → List ℕ

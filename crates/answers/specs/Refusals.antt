@@ -34,7 +34,7 @@ place_of Form = 0
 
 -- an answer on paper: "Each answer is the result or a refusal number with one place number."
 pub data Answer : Type 0 where
-  result : List ℕ → Answer
+  the_result : List ℕ → Answer
   refusal : ℕ → ℕ → Answer
 
 abbrev pub refused : Refusal → Answer
@@ -47,9 +47,9 @@ refuse_if bad x later = cond bad (refused x) later
 -- what comes after checks that passed
 abbrev pub after : Answer → Answer → Answer
 after (refusal n i) later = refusal n i
-after (result vs) later = later
+after (the_result vs) later = later
 
 -- an outcome of the code, on paper: its result lies in lent memory
 abbrev pub told_outcome : Outcome → Answer
-told_outcome Done = result []
+told_outcome Done = the_result []
 told_outcome (Refused x) = refused x

@@ -6,7 +6,7 @@ use mathlib.Core.Option.{Option, some, none}
 use Prim.Native.Nat.{ℕ, ◌-◌, ◌≤◌}
 use lib.ListN.{length, take, drop}
 use Rattle.answers.specs.Leaves.{Leaves, leaving, written}
-use Rattle.answers.specs.Refusals.{Answer, result}
+use Rattle.answers.specs.Refusals.{Answer, the_result}
 use Rattle.answers.proofs.Leaves.{zeroed_again}
 use Rattle.code.specs.Decoded.{decoded}
 use Rattle.code.specs.Rooms.{decode_work}
@@ -23,4 +23,4 @@ decoded_whole n stated none a out work o e is enough leaves =
     ap (extended (drop (stated - 0) work)) leaves ∙ ap (leaving _ out) (zeroed_again stated (decode_work n) work is enough)
 decoded_whole n stated (some s) a out work o e is enough leaves =
     ap (extended (drop (stated - 0) work)) leaves
-    ∙ ap (leaving (result []) (written s out)) (zeroed_again stated (decode_work n) work is enough)
+    ∙ ap (leaving (the_result []) (written s out)) (zeroed_again stated (decode_work n) work is enough)

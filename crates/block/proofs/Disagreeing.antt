@@ -9,7 +9,7 @@ use borrow.Author.Tests.{eqb-false}
 use lib.Dec.{ltb, eqb}
 use lib.ListN.{length}
 use Rattle.answers.specs.Leaves.{unless_refused}
-use Rattle.answers.specs.Refusals.{Answer, result, refusal, refused, refuse_if, number_of}
+use Rattle.answers.specs.Refusals.{Answer, the_result, refusal, refused, refuse_if, number_of}
 use Rattle.limits.specs.Shape.{bad_shape}
 use Rattle.limits.specs.Values.{first_above}
 use Rattle.answers.specs.declared.refusal.Refusal.{Refusal}
@@ -24,7 +24,7 @@ use Rattle.code.specs.Rooms.{decode_work}
 
 -- an answer with another number than DISAGREE's, or with nothing as its result
 pub data Before : Answer → Type 0 where
-  passing : Before (result [])
+  passing : Before (the_result [])
   other : {number place : ℕ} → eqb number 8 ≡ false → Before (refusal number place)
 
 pub before_if : (bad : Bool) (x : Refusal) {later : Answer} → eqb (number_of x) 8 ≡ false → Before later → Before (refuse_if bad x later)
@@ -44,7 +44,7 @@ checks_before k n positions values out work =
 
 -- so where DISAGREE is answered, the checks passed and decoding found none
 pub disagree_none : (a : Answer) (found : Option (List ℕ)) (n : ℕ) (out work : List ℕ) → Before a
-    → (unless_refused a out work (decoded found n out work)).answer ≡ refused (Disagree 0) → (a ≡ result []) × (found ≡ none)
+    → (unless_refused a out work (decoded found n out work)).answer ≡ refused (Disagree 0) → (a ≡ the_result []) × (found ≡ none)
 disagree_none (refusal number place) found n out work (other differs) e = absurd (eqb-false number 8 differs (cc))
-disagree_none (result []) none n out work passing e = (refl, refl)
-disagree_none (result []) (some s) n out work passing e = absurd (result_no_refusal e)
+disagree_none (the_result []) none n out work passing e = (refl, refl)
+disagree_none (the_result []) (some s) n out work passing e = absurd (result_no_refusal e)

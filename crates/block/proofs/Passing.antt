@@ -8,7 +8,7 @@ use native.Mathlib.Nat.{le_of_eq}
 use borrow.Author.Tests.{ltb-false, eqb-true, not-false, le-ltb, eq-eqb}
 use lib.Dec.{ltb, eqb}
 use lib.ListN.{length}
-use Rattle.answers.specs.Refusals.{result}
+use Rattle.answers.specs.Refusals.{the_result}
 use Rattle.limits.specs.Shape.{bad_shape}
 use Rattle.limits.specs.Values.{first_above}
 use Rattle.answers.specs.declared.refusal.Refusal.TheVariants.{Shape, Length, Room, Few, Position, Repeat, Value}
@@ -24,14 +24,14 @@ use Rattle.code.specs.Rooms.{encode_work, decode_work}
 use Rattle.code_positions.proofs.Outside.{outside_none, none_outside}
 use Rattle.code_positions.proofs.Repeating.{repeat_none, none_repeat}
 
-pub encode_passed : (k n : ℕ) (message : List ℕ) (out work : ℕ) → encode_checks k n message out work ≡ result []
+pub encode_passed : (k n : ℕ) (message : List ℕ) (out work : ℕ) → encode_checks k n message out work ≡ the_result []
     → Codable n message × (length message ≡ k) × (n ≤ out) × (encode_work n ≤ work)
 unfolding encode_checks
 encode_passed k n message out work e =
     let shape = passed (bad_shape k n) Shape _ [] e in
     let long = passed (not (eqb (length message) k)) Length _ [] shape.1 in
     let room = passed (ltb out n || ltb work (encode_work n)) Room _ [] long.1 in
-    let above = passed (ltb (first_above message) (length message)) (Value (first_above message)) (result []) [] room.1 in
+    let above = passed (ltb (first_above message) (length message)) (Value (first_above message)) (the_result []) [] room.1 in
     let enough = or_false (ltb out n) (ltb work (encode_work n)) room.0 in
     let is = eqb-true (length message) k (not-false _ long.0) in (
       record { shape = rw is shape.0; symbols = all_symbols message refl (ltb-false _ _ above.0) },
@@ -41,7 +41,7 @@ encode_passed k n message out work e =
     )
 
 pub encode_passes : (k n : ℕ) (message : List ℕ) (out work : ℕ) → Codable n message → length message ≡ k → n ≤ out
-    → encode_work n ≤ work → encode_checks k n message out work ≡ result []
+    → encode_work n ≤ work → encode_checks k n message out work ≡ the_result []
 unfolding encode_checks
 encode_passes k n message out work good is enough room =
     simp (
@@ -53,7 +53,7 @@ encode_passes k n message out work good is enough room =
       le-ltb (first_above message) (length message) (le_of_eq (sym (none_above message good.symbols))),
     )
 
-pub decode_passed : (k n : ℕ) (positions values : List ℕ) (out work : ℕ) → decode_checks k n positions values out work ≡ result []
+pub decode_passed : (k n : ℕ) (positions values : List ℕ) (out work : ℕ) → decode_checks k n positions values out work ≡ the_result []
     → Decodable k n (held positions values) × (k ≤ out) × (decode_work n ≤ work)
 unfolding decode_checks held
 decode_passed k n positions values out work e =
@@ -63,7 +63,7 @@ decode_passed k n positions values out work e =
     let few = passed (ltb (length positions) k) Few _ [] room.1 in
     let outside = passed (ltb (first_outside n positions) (length positions)) (Position (first_outside n positions)) _ [] few.1 in
     let repeat = passed (ltb (first_repeat positions) (length positions)) (Repeat (first_repeat positions)) _ [] outside.1 in
-    let above = passed (ltb (first_above values) (length values)) (Value (first_above values)) (result []) [] repeat.1 in
+    let above = passed (ltb (first_above values) (length values)) (Value (first_above values)) (the_result []) [] repeat.1 in
     let enough = or_false (ltb out k) (ltb work (decode_work n)) room.0 in (
       record {
         shape = shape.0;
@@ -78,7 +78,7 @@ decode_passed k n positions values out work e =
     )
 
 pub decode_passes : (k n : ℕ) (positions values : List ℕ) (out work : ℕ) → Decodable k n (held positions values) → k ≤ out
-    → decode_work n ≤ work → decode_checks k n positions values out work ≡ result []
+    → decode_work n ≤ work → decode_checks k n positions values out work ≡ the_result []
 unfolding decode_checks held
 decode_passes k n positions values out work able enough room =
     simp (

@@ -13,7 +13,7 @@ use Rattle.field.specs.Field.{power}
 use Rattle.answers.specs.First.{first}
 use Rattle.answers.specs.Leaves.{Leaves}
 use Rattle.field.specs.Points.{root_of, point_of}
-use Rattle.answers.specs.Refusals.{result, refused}
+use Rattle.answers.specs.Refusals.{the_result, refused}
 use Rattle.field.specs.Roots.{roots, root}
 use Rattle.limits.specs.Shape.{longest, bad_shape}
 use Rattle.field.specs.Size.{level_of, size_of}
@@ -139,13 +139,13 @@ pub disagree_exactly : DisagreeExactly
 disagree_exactly k n positions values out work = (forth, back)
   where
     forth : (decode_leaves k n positions values out work).answer ≡ refused (Disagree 0)
-        → (decode_checks k n positions values (length out) (length work) ≡ result []) × ((s : List ℕ) → ¬ Fits k n (held positions values) s)
+        → (decode_checks k n positions values (length out) (length work) ≡ the_result []) × ((s : List ℕ) → ¬ Fits k n (held positions values) s)
     forth e =
         let found = disagree_none _ _ n out work (checks_before k n positions values (length out) (length work)) e in
         let able = (decode_passed k n positions values (length out) (length work) found.0).0 in
         (found.0, (decodes_none k n _ able).0 found.1)
 
-    back : (decode_checks k n positions values (length out) (length work) ≡ result []) × ((s : List ℕ) → ¬ Fits k n (held positions values) s)
+    back : (decode_checks k n positions values (length out) (length work) ≡ the_result []) × ((s : List ℕ) → ¬ Fits k n (held positions values) s)
         → (decode_leaves k n positions values out work).answer ≡ refused (Disagree 0)
     back p =
         let passed = decode_passed k n positions values (length out) (length work) p.0 in
@@ -191,7 +191,7 @@ greatest : IsMessage 1 (65536 ∷ [])
 unfolding first_above first
 greatest = is_message (65536 ∷ []) refl
 
-worked : {sent : List ℕ} → IsMessage 2 sent → (positions values : List ℕ) → decode_checks 2 4 positions values 2 (decode_work 4) ≡ result []
+worked : {sent : List ℕ} → IsMessage 2 sent → (positions values : List ℕ) → decode_checks 2 4 positions values 2 (decode_work 4) ≡ the_result []
     → altered_count 4 sent (held positions values) + 2 ≤ length positions → Demand3 2 4 sent positions values
 unfolding held
 worked is positions values passes =

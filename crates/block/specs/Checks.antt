@@ -1,6 +1,6 @@
 -- The checks of encode, and those of decode before DISAGREE, in the order of the numbers, each over the whole list before the next.
 use Rattle.std.specs.Prelude.{◌||◌, not, List, [], ℕ, ltb, eqb, length}
-use Rattle.answers.specs.Refusals.{Answer, result, refuse_if}
+use Rattle.answers.specs.Refusals.{Answer, the_result, refuse_if}
 use Rattle.limits.specs.Shape.{bad_shape}
 use Rattle.limits.specs.Values.{refuse_above}
 use Rattle.answers.specs.declared.refusal.Refusal.TheVariants.{Shape, Length, Room, Few, Position, Repeat}
@@ -15,7 +15,7 @@ unfoldable pub encode_checks : ℕ → ℕ → List ℕ → ℕ → ℕ → Answ
 encode_checks k n message out work =
     refuse_if (bad_shape k n) Shape
     (refuse_if (not (eqb (length message) k)) Length
-    (refuse_if (ltb out n || ltb work (encode_work n)) Room (refuse_above message (result []))))
+    (refuse_if (ltb out n || ltb work (encode_work n)) Room (refuse_above message (the_result []))))
 
 unfoldable pub decode_checks : ℕ → ℕ → List ℕ → List ℕ → ℕ → ℕ → Answer
 decode_checks k n positions values out work =
@@ -25,4 +25,4 @@ decode_checks k n positions values out work =
     (refuse_if (ltb (held_count (held positions values)) k) Few
     (refuse_if (ltb (first_outside n positions) (length positions)) (Position (first_outside n positions))
     (refuse_if (ltb (first_repeat positions) (length positions)) (Repeat (first_repeat positions))
-    (refuse_above values (result [])))))))
+    (refuse_above values (the_result [])))))))

@@ -2,7 +2,7 @@
 use Rattle.std.specs.Prelude.{◌≡◌, false, List, [], ◌∷◌, ◌⊎◌, ◌↔◌, ℕ, ◌+◌, ◌<◌, ◌≤◌, length, get_or}
 use Rattle.std.proofs.Math.Option.{some, none}
 use Rattle.answers.specs.Leaves.{OutcomeSettled, leaving, written, zeroed}
-use Rattle.answers.specs.Refusals.{result, refused}
+use Rattle.answers.specs.Refusals.{the_result, refused}
 use Rattle.limits.specs.Shape.{longest, bad_shape}
 use Rattle.field.specs.Symbol.{Symbols}
 use Rattle.answers.specs.declared.refusal.Refusal.TheVariants.{Disagree}
@@ -51,13 +51,13 @@ DecodesNone = (k n : ℕ) (h : Held) → Decodable k n h → (decode_of k n h �
 abbrev pub EncodeChecksPass : Type 0
 EncodeChecksPass =
     (k n : ℕ) (message : List ℕ) (out work : ℕ)
-    → (encode_checks k n message out work ≡ result [])
+    → (encode_checks k n message out work ≡ the_result [])
     ↔ (Codable n message × (length message ≡ k) × (n ≤ out) × (encode_work n ≤ work))
 
 abbrev pub DecodeChecksPass : Type 0
 DecodeChecksPass =
     (k n : ℕ) (positions values : List ℕ) (out work : ℕ)
-    → (decode_checks k n positions values out work ≡ result [])
+    → (decode_checks k n positions values out work ≡ the_result [])
     ↔ (Decodable k n (held positions values) × (k ≤ out) × (decode_work n ≤ work))
 
 -- The calls: what they leave, given room
@@ -66,13 +66,13 @@ DecodeChecksPass =
 abbrev pub Encodes : ℕ → ℕ → List ℕ → List ℕ → Type 0
 Encodes k n message word =
     (out work : List ℕ) → n ≤ length out → encode_work n ≤ length work
-    → encode_leaves k n message out work ≡ leaving (result []) (written word out) (zeroed (encode_work n) work)
+    → encode_leaves k n message out work ≡ leaving (the_result []) (written word out) (zeroed (encode_work n) work)
 
 -- decode leaves this message
 abbrev pub Decodes : ℕ → ℕ → List ℕ → List ℕ → List ℕ → Type 0
 Decodes k n positions values message =
     (out work : List ℕ) → k ≤ length out → decode_work n ≤ length work
-    → decode_leaves k n positions values out work ≡ leaving (result []) (written message out) (zeroed (decode_work n) work)
+    → decode_leaves k n positions values out work ≡ leaving (the_result []) (written message out) (zeroed (decode_work n) work)
 
 -- decode answers DISAGREE
 abbrev pub Disagrees : ℕ → ℕ → List ℕ → List ℕ → Type 0
@@ -97,7 +97,7 @@ abbrev pub DisagreeExactly : Type 0
 DisagreeExactly =
     (k n : ℕ) (positions values out work : List ℕ)
     → ((decode_leaves k n positions values out work).answer ≡ refused (Disagree 0))
-    ↔ ((decode_checks k n positions values (length out) (length work) ≡ result [])
+    ↔ ((decode_checks k n positions values (length out) (length work) ≡ the_result [])
     × ((s : List ℕ) → ¬ Fits k n (held positions values) s))
 
 -- Demand 3: m ≥ k symbols at true, distinct positions, of which at most m - k are altered to other field values

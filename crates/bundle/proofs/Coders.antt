@@ -12,7 +12,7 @@ use Rattle.field.specs.Field.{power}
 use Rattle.answers.specs.First.{first}
 use Rattle.answers.specs.Leaves.{Leaves, leaving}
 use Rattle.field.specs.Points.{root_of, point_of}
-use Rattle.answers.specs.Refusals.{result}
+use Rattle.answers.specs.Refusals.{the_result}
 use Rattle.field.specs.Roots.{roots, root}
 use Rattle.limits.specs.Shape.{longest, bad_shape}
 use Rattle.field.specs.Size.{level_of, size_of}
@@ -49,10 +49,10 @@ use Rattle.bundle_file.proofs.Padding.{zeros_behind}
 -- a call left a result, and x at a place of the list that takes it
 record Told (it : Leaves) (place x : ℕ) : Type 0 where
   results : List ℕ
-  answer : it.answer ≡ result results
+  answer : it.answer ≡ the_result results
   there : get_or it.list place 0 ≡ x
 
-told : {it : Leaves} (place x : ℕ) (vs l w : List ℕ) → it ≡ leaving (result vs) l w → get_or l place 0 ≡ x → Told it place x
+told : {it : Leaves} (place x : ℕ) (vs l w : List ℕ) → it ≡ leaving (the_result vs) l w → get_or l place 0 ≡ x → Told it place x
 told place x vs l w e there =
     record {
       results = vs;

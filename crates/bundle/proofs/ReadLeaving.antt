@@ -8,7 +8,7 @@ use native.Mathlib.Omega.{arith}
 use lib.ListN.{length, take, drop, replicate, length-take, length-replicate, take-append-drop, drop_of_length-le}
 use lib.Seq.{length-take-le, take_all, drop-append-le}
 use Rattle.answers.specs.Leaves.{Leaves, leaving, written, zeroed}
-use Rattle.answers.specs.Refusals.{Answer, result, refusal, refused, told_outcome, after}
+use Rattle.answers.specs.Refusals.{Answer, the_result, refusal, refused, told_outcome, after}
 use Rattle.answers.specs.declared.refusal.Outcome.{Outcome}
 use Rattle.answers.specs.declared.refusal.Outcome.TheVariants.{Done, Refused}
 use Rattle.answers.specs.declared.refusal.Refusal.{Refusal}
@@ -29,16 +29,16 @@ file_short s =
 
 -- The work: file and cells are what was lent of the output and of the working space, f and c what they hold at the end
 
-module _ (s file cells f c : List ℕ) (long : length file ≡ length_in s) (room : length cells ≡ bundle_work (n_in s)) (m : ℕ) (same : m ≡ length cells) (cleared : c ≡ replicate m 0) (o : Outcome) (told : after (told_outcome o) (result (length_in s ∷ [])) ≡ blocks_answer s 0 (blocks_in s)) where
+module _ (s file cells f c : List ℕ) (long : length file ≡ length_in s) (room : length cells ≡ bundle_work (n_in s)) (m : ℕ) (same : m ≡ length cells) (cleared : c ≡ replicate m 0) (o : Outcome) (told : after (told_outcome o) (the_result (length_in s ∷ [])) ≡ blocks_answer s 0 (blocks_in s)) where
   zero : c ≡ zeroed (bundle_work (n_in s)) cells
   zero = cleared ∙ ap (λ (z : ℕ). replicate z 0) (same ∙ room) ∙ sym (zeroed_all (bundle_work (n_in s)) cells room)
 
-  pub leaves_file : o ≡ Done → (L : ℕ) → L ≡ length_in s → length f ≡ length file → (told_outcome o ≡ result [] → f ≡ take (length file) (file_in s))
-      → leaving (result (L ∷ [])) f c ≡ blocks_leave (blocks_answer s 0 (blocks_in s)) s file cells
+  pub leaves_file : o ≡ Done → (L : ℕ) → L ≡ length_in s → length f ≡ length file → (told_outcome o ≡ the_result [] → f ≡ take (length file) (file_in s))
+      → leaving (the_result (L ∷ [])) f c ≡ blocks_leave (blocks_answer s 0 (blocks_in s)) s file cells
   leaves_file done L is kept file-is =
-      ap₂ (leaving (result (L ∷ []))) (whole ∙ ap (λ (t : List ℕ). written t file) (file-is (ap told_outcome done) ∙ take_all (length file) (file_in s) (omega (arith, long, file_short s)))) zero
-      ∙ ap (λ (z : ℕ). leaving (result (z ∷ [])) (written (file_in s) file) (zeroed (bundle_work (n_in s)) cells)) is
-      ∙ ap (λ (a : Answer). blocks_leave a s file cells) (ap (λ (p : Outcome). after (told_outcome p) (result (length_in s ∷ []))) (sym done) ∙ told)
+      ap₂ (leaving (the_result (L ∷ []))) (whole ∙ ap (λ (t : List ℕ). written t file) (file-is (ap told_outcome done) ∙ take_all (length file) (file_in s) (omega (arith, long, file_short s)))) zero
+      ∙ ap (λ (z : ℕ). leaving (the_result (z ∷ [])) (written (file_in s) file) (zeroed (bundle_work (n_in s)) cells)) is
+      ∙ ap (λ (a : Answer). blocks_leave a s file cells) (ap (λ (p : Outcome). after (told_outcome p) (the_result (length_in s ∷ []))) (sym done) ∙ told)
     where
       whole : f ≡ written f file
       whole = sym (written_all f file (omega (arith, kept)))
@@ -49,7 +49,7 @@ module _ (s file cells f c : List ℕ) (long : length file ≡ length_in s) (roo
       ap₂ (leaving (refused x))
       (zeros ∙ ap (λ (z : ℕ). replicate z 0) (is ∙ long)
       ∙ sym (written_all (replicate (length_in s) 0) file (omega (arith, length-replicate {A = ℕ} (length_in s) 0, long)))) zero
-      ∙ ap (λ (a : Answer). blocks_leave a s file cells) (ap (λ (p : Outcome). after (told_outcome p) (result (length_in s ∷ []))) (sym bad) ∙ told)
+      ∙ ap (λ (a : Answer). blocks_leave a s file cells) (ap (λ (p : Outcome). after (told_outcome p) (the_result (length_in s ∷ []))) (sym bad) ∙ told)
 
 -- The call: stated parts of the output and of the working space were lent
 
@@ -73,8 +73,8 @@ blocks_whole s (refusal number place) a L room out work f c first second enough 
     ∙ ap₂ (leaving (refusal number place))
     (again_written (replicate (length_in s) 0) out (length_in s) L first enough (omega (arith, length-replicate {A = ℕ} (length_in s) 0)))
     (zeroed_again room (bundle_work (n_in s)) work second space)
-blocks_whole s (result vs) a L room out work f c first second enough space leaves =
+blocks_whole s (the_result vs) a L room out work f c first second enough space leaves =
     ap (extended (drop (L - 0) out) (drop (room - 0) work)) leaves
-    ∙ ap₂ (leaving (result vs))
+    ∙ ap₂ (leaving (the_result vs))
     (again_written (file_in s) out (length_in s) L first enough (file_short s))
     (zeroed_again room (bundle_work (n_in s)) work second space)

@@ -13,7 +13,7 @@ use lib.ListN.{length, take, replicate}
 use lib.Seq.{take_at}
 use Rattle.answers.specs.First.{first}
 use Rattle.answers.specs.Leaves.{leaving, written, zeroed}
-use Rattle.answers.specs.Refusals.{result, refused}
+use Rattle.answers.specs.Refusals.{the_result, refused}
 use Rattle.answers.specs.declared.refusal.Refusal.TheVariants.{Disagree}
 use Rattle.answers.proofs.First.{first_before, first_holds}
 use Rattle.lists.specs.Tab.{tab}
@@ -39,7 +39,7 @@ use Rattle.bundle.proofs.BlockAnswers.{block_taken, block_disagrees}
 use Rattle.bundle_read.proofs.HeldBlocks.{held_count_lem, held_decodable}
 use Rattle.bundle.proofs.Walking.{all_taken, first_refused, read_leaves_lem}
 
-module _ (file s : List ℕ) (bytes : Bytes file) (of_bytes : Bytes s) (good : layout_checks s ≡ result []) (enough : k_in s ≤ held_in s)
+module _ (file s : List ℕ) (bytes : Bytes file) (of_bytes : Bytes s) (good : layout_checks s ≡ the_result []) (enough : k_in s ≤ held_in s)
     (long : length_in s ≡ length file) where
   -- how many symbols of a block are altered
   abbrev altered : ℕ → ℕ
@@ -51,7 +51,7 @@ module _ (file s : List ℕ) (bytes : Bytes file) (of_bytes : Bytes s) (good : l
       (decodes_fitting (k_in s) (n_in s) (held_at s b) (held_decodable s b of_bytes good enough) (message_at (k_in s) file b)).1
       (none_fits (k_in s) (n_in s) (message_at (k_in s) file b) (held_at s b) (message_is (k_in s) file bytes b) all)
 
-  taken : (b : ℕ) → altered b ≡ 0 → block_answer s b ≡ result []
+  taken : (b : ℕ) → altered b ≡ 0 → block_answer s b ≡ the_result []
   taken b all =
       block_taken s b (message_at (k_in s) file b) (decoded b all) (word_good (k_in s) file bytes b)
       (rw long (tail_good (k_in s) file bytes b))
@@ -93,10 +93,10 @@ module _ (file s : List ℕ) (bytes : Bytes file) (of_bytes : Bytes s) (good : l
 
   reads : ((b : ℕ) → b < blocks_in s → altered b ≡ 0) → Reads (n_in s) s file
   reads each out work fits room =
-      read_leaves_lem s out work (result (length_in s ∷ []))
+      read_leaves_lem s out work (the_result (length_in s ∷ []))
       (read_passes s (length out) (length work) good (omega arith) room enough)
       (all_taken s (blocks_in s) 0 (λ c h l. taken c (each c (omega arith))))
-      ∙ ap₂ (λ (L : ℕ) (f : List ℕ). leaving (result (L ∷ [])) (written f out) (zeroed (bundle_work (n_in s)) work)) long (file_back each)
+      ∙ ap₂ (λ (L : ℕ) (f : List ℕ). leaving (the_result (L ∷ [])) (written f out) (zeroed (bundle_work (n_in s)) work)) long (file_back each)
 
   refuses : (b : ℕ) → b < blocks_in s → ((c : ℕ) → c < b → altered c ≡ 0) → altered b + k_in s ≤ held_in s → 0 < altered b
       → Refuses (n_in s) (length file) s (Disagree b)

@@ -8,7 +8,7 @@ use native.Mathlib.Decide.{dec_lt}
 use native.Mathlib.Omega.{arith}
 use lib.ListN.{length}
 use Rattle.answers.specs.Leaves.{unless_refused}
-use Rattle.answers.specs.Refusals.{Answer, result, refusal, refused, after}
+use Rattle.answers.specs.Refusals.{Answer, the_result, refusal, refused, after}
 use Rattle.answers.specs.declared.refusal.Refusal.TheVariants.{Disagree}
 use Rattle.answers.proofs.Leaves.{leaves_done}
 use Rattle.answers.proofs.Refusals.{result_no_refusal}
@@ -19,15 +19,15 @@ use Rattle.bundle_read.specs.Reading.{decoded_at, block_answer, blocks_answer}
 use Rattle.bundle.proofs.BlockAnswers.{block_result, disagrees_none}
 
 module _ (s : List ℕ) where
-  pub all_taken : (left b : ℕ) → ((c : ℕ) → b ≤ c → c < b + left → block_answer s c ≡ result [])
-      → blocks_answer s b left ≡ result (length_in s ∷ [])
+  pub all_taken : (left b : ℕ) → ((c : ℕ) → b ≤ c → c < b + left → block_answer s c ≡ the_result [])
+      → blocks_answer s b left ≡ the_result (length_in s ∷ [])
   unfolding blocks_answer
   all_taken zero b each = refl
   all_taken (suc left) b each =
       ap (λ (a : Answer). after a (blocks_answer s (suc b) left)) (each b (omega arith) (omega arith))
       ∙ all_taken left (suc b) (λ c h l. each c (omega arith) (omega arith))
 
-  pub first_refused : (number place left b c : ℕ) → b ≤ c → c < b + left → ((d : ℕ) → b ≤ d → d < c → block_answer s d ≡ result [])
+  pub first_refused : (number place left b c : ℕ) → b ≤ c → c < b + left → ((d : ℕ) → b ≤ d → d < c → block_answer s d ≡ the_result [])
       → block_answer s c ≡ refusal number place → blocks_answer s b left ≡ refusal number place
   unfolding blocks_answer
   first_refused number place zero b c h l before here = absurd (omega arith)
@@ -40,7 +40,7 @@ module _ (s : List ℕ) where
 
   -- the block c is the first that is not taken, and none fits it
   abbrev Disagrees : ℕ → ℕ → ℕ → Type 0
-  Disagrees left b c = (b ≤ c) × (c < b + left) × ((d : ℕ) → b ≤ d → d < c → block_answer s d ≡ result []) × (decoded_at s c ≡ none)
+  Disagrees left b c = (b ≤ c) × (c < b + left) × ((d : ℕ) → b ≤ d → d < c → block_answer s d ≡ the_result []) × (decoded_at s c ≡ none)
 
   pub disagree_first : (left b c : ℕ) → blocks_answer s b left ≡ refused (Disagree c) → Disagrees left b c
   unfolding blocks_answer
@@ -52,7 +52,7 @@ module _ (s : List ℕ) where
       go (refusal number place) is e later =
           let here = disagrees_none s b c (is ∙ e) in
           (omega arith, omega arith, λ d h l. absurd (omega arith), ap (decoded_at s) here.0 ∙ here.1)
-      go (result vs) is e later =
+      go (the_result vs) is e later =
           let rest = later e in (
             omega arith,
             omega arith,
@@ -66,15 +66,15 @@ module _ (s : List ℕ) where
 -- What the reader leaves
 
 module _ (s out work : List ℕ) where
-  pub read_leaves_lem : (a : Answer) → read_checks s (length out) (length work) ≡ result [] → blocks_answer s 0 (blocks_in s) ≡ a
+  pub read_leaves_lem : (a : Answer) → read_checks s (length out) (length work) ≡ the_result [] → blocks_answer s 0 (blocks_in s) ≡ a
       → read_leaves s out work ≡ blocks_leave a s out work
   read_leaves_lem a passes is =
       sym (leaves_done (read_checks s (length out) (length work)) out work _ passes) ∙ ap (λ (b : Answer). blocks_leave b s out work) is
 
   leaves_answer : (a b : Answer) → (unless_refused a out work (blocks_leave b s out work)).answer ≡ after a b
   leaves_answer (refusal number place) b = refl
-  leaves_answer (result vs) (refusal number place) = refl
-  leaves_answer (result vs) (result ws) = refl
+  leaves_answer (the_result vs) (refusal number place) = refl
+  leaves_answer (the_result vs) (the_result ws) = refl
 
   pub read_answer : (read_leaves s out work).answer ≡ after (read_checks s (length out) (length work)) (blocks_answer s 0 (blocks_in s))
   read_answer = leaves_answer (read_checks s (length out) (length work)) (blocks_answer s 0 (blocks_in s))

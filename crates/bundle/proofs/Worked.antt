@@ -11,7 +11,7 @@ use Rattle.field.specs.Field.{power}
 use Rattle.answers.specs.First.{first}
 use Rattle.answers.specs.Leaves.{leaving, unless_refused}
 use Rattle.field.specs.Points.{root_of, point_of}
-use Rattle.answers.specs.Refusals.{Answer, result, refused, after}
+use Rattle.answers.specs.Refusals.{Answer, the_result, refused, after}
 use Rattle.field.specs.Roots.{roots, root}
 use Rattle.limits.specs.Shape.{longest, bad_shape}
 use Rattle.field.specs.Size.{level_of, size_of}
@@ -71,7 +71,7 @@ longer_layout = refl
 
 -- L = 3: the one block is (1, 2), whose last byte is padding
 
-shorter_layout : layout_checks (bundle12 3) ≡ result []
+shorter_layout : layout_checks (bundle12 3) ≡ the_result []
 unfolding layout_checks bad_front header_size starts_with mark first last_in two_at bad_bundle_shape bad_shape longest longest_file most_blocks blocks_of k_in n_in length_in four_at rest_good first_body entry_size held_in bad_entry out_of_order least position_in entry_at offset_in start_of body_size blocks_in count_in body_good rises list_at bundle12 bundle11
 shorter_layout = refl
 

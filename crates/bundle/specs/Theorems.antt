@@ -1,7 +1,7 @@
 -- What is proved of the definitions, as statements: proofs/Theorems.antt proves each under the same name in small letters.
 use Rattle.std.specs.Prelude.{◌≡◌, false, List, [], ◌∷◌, map, ◌⊎◌, ◌↔◌, ℕ, ◌+◌, ◌<◌, ◌≤◌, length, replicate}
 use Rattle.answers.specs.Leaves.{leaving, written, zeroed}
-use Rattle.answers.specs.Refusals.{result, refused}
+use Rattle.answers.specs.Refusals.{the_result, refused}
 use Rattle.answers.specs.declared.refusal.Refusal.{Refusal}
 use Rattle.answers.specs.declared.refusal.Refusal.TheVariants.{Disagree}
 use Rattle.code.specs.Altered.{altered_count}
@@ -25,13 +25,13 @@ use Rattle.bundle_layout.specs.Rooms.{write_out, bundle_work}
 abbrev pub Writes : ℕ → ℕ → List ℕ → List ℕ → Type 0
 Writes k n file bundle =
     (out work : List ℕ) → write_out n (blocks_of k (length file)) ≤ length out → bundle_work n ≤ length work
-    → write_leaves k n file out work ≡ leaving (result (length bundle ∷ [])) (written bundle out) (zeroed (bundle_work n) work)
+    → write_leaves k n file out work ≡ leaving (the_result (length bundle ∷ [])) (written bundle out) (zeroed (bundle_work n) work)
 
 -- the reader leaves this file
 abbrev pub Reads : ℕ → List ℕ → List ℕ → Type 0
 Reads n s file =
     (out work : List ℕ) → length file ≤ length out → bundle_work n ≤ length work
-    → read_leaves s out work ≡ leaving (result (length file ∷ [])) (written file out) (zeroed (bundle_work n) work)
+    → read_leaves s out work ≡ leaving (the_result (length file ∷ [])) (written file out) (zeroed (bundle_work n) work)
 
 -- the reader refuses a block, L being the file's length
 abbrev pub Refuses : ℕ → ℕ → List ℕ → Refusal → Type 0
@@ -69,9 +69,9 @@ abbrev pub DisagreeExactly : Type 0
 DisagreeExactly =
     (s out work : List ℕ) → Bytes s → (b : ℕ)
     → ((read_leaves s out work).answer ≡ refused (Disagree b))
-    ↔ ((read_checks s (length out) (length work) ≡ result [])
+    ↔ ((read_checks s (length out) (length work) ≡ the_result [])
     × (b < blocks_in s)
-    × ((c : ℕ) → c < b → block_answer s c ≡ result [])
+    × ((c : ℕ) → c < b → block_answer s c ≡ the_result [])
     × ((message : List ℕ) → ¬ Fits (k_in s) (n_in s) (held_at s b) message))
 
 -- a bundle with the file's k, n and L, of which in each block at most m - k symbols are altered
@@ -93,15 +93,15 @@ pub record Demand3 (k n : ℕ) (file s : List ℕ) : Type 0 where
 -- L = 0 has no blocks, so that m ≥ k is asked for by itself
 abbrev pub NeverAnother : Type 0
 NeverAnother =
-    (k n : ℕ) (file s : List ℕ) → Bytes file → Bytes s → layout_checks s ≡ result [] → k ≤ held_in s → FewAltered k n file s
+    (k n : ℕ) (file s : List ℕ) → Bytes file → Bytes s → layout_checks s ≡ the_result [] → k ≤ held_in s → FewAltered k n file s
     → Demand3 k n file s
 
 -- whatever the bytes are: where the reader takes them, and a good layout would be altered in no more than that, it leaves the file
 abbrev pub TakenIsSent : Type 0
 TakenIsSent =
-    (k n : ℕ) (file s out work vs : List ℕ) → Bytes file → Bytes s → (layout_checks s ≡ result [] → FewAltered k n file s)
-    → (read_leaves s out work).answer ≡ result vs
-    → read_leaves s out work ≡ leaving (result (length file ∷ [])) (written file out) (zeroed (bundle_work n) work)
+    (k n : ℕ) (file s out work vs : List ℕ) → Bytes file → Bytes s → (layout_checks s ≡ the_result [] → FewAltered k n file s)
+    → (read_leaves s out work).answer ≡ the_result vs
+    → read_leaves s out work ≡ leaving (the_result (length file ∷ [])) (written file out) (zeroed (bundle_work n) work)
 
 -- Two outcomes of a call are equal: the answer, every byte of the output and every cell of the working space
 

@@ -2,7 +2,7 @@
 -- promises if they leave what the promises say.
 use Rattle.std.specs.Prelude.{◌≡◌, false, List, [], ◌∷◌, ℕ, ◌<◌, ◌≤◌, length}
 use Rattle.answers.specs.Leaves.{Leaves}
-use Rattle.answers.specs.Refusals.{result, refusal}
+use Rattle.answers.specs.Refusals.{the_result, refusal}
 use Rattle.block.specs.Calls.{encode_leaves, decode_leaves}
 use Rattle.bundle_layout.specs.Blocks.{blocks_of}
 use Rattle.bundle_layout.specs.Shape.{bad_bundle_shape}
@@ -85,7 +85,7 @@ abbrev pub InventsNothing : Coder → Type 0
 InventsNothing c =
     KeepsWrite c → (k n : ℕ) (file out work : List ℕ) → bad_bundle_shape k n (length file) ≡ false
     → write_out n (blocks_of k (length file)) ≤ length out → bundle_work n ≤ length work
-    → ((c.write k n file out work).answer ≡ result (length (file_bundle k n file) ∷ []))
+    → ((c.write k n file out work).answer ≡ the_result (length (file_bundle k n file) ∷ []))
     × ((i : ℕ) → i < n → count_in (c.write k n file out work).list i ≡ count_at k n file i)
     × (length_in (c.write k n file out work).list ≡ length file)
 

@@ -1,7 +1,7 @@
 // The checks of the writer, and those of the reader before the blocks, in document 01's order. They write nothing. No entry points and for this
 // crate alone.
 ghost use Rattle.std.specs.Prelude.{◌≡◌, []};
-ghost use Rattle.answers.specs.Refusals.{result, told_outcome};
+ghost use Rattle.answers.specs.Refusals.{the_result, told_outcome};
 ghost use Rattle.bundle_layout.specs.Layout.{layout_checks};
 ghost use Rattle.bundle.specs.Checks.{write_checks, room_checks, read_checks};
 
@@ -14,7 +14,7 @@ use limits::too_short;
 
 // length is the file's, out and work are the lengths of the output and of the working space.
 pub fn write_checks(k: usize, n: usize, length: usize, out: usize, work: usize) -> Outcome
-    ensures* { λ r. ⌜ told_outcome r ≡ write_checks k n length out work ⌝ }
+    ensures { told_outcome result ≡ write_checks k n length out work }
 {
     if bad_bundle_shape(k, n, length) {
         return Outcome::Refused(Refusal::Shape);
@@ -27,8 +27,8 @@ pub fn write_checks(k: usize, n: usize, length: usize, out: usize, work: usize) 
 
 // ROOM and FEW, once the layout is good.
 fn room_checks(bundle: &[u8], out: usize, work: usize) -> Outcome
-    requires { layout_checks bundle.now ≡ result [] }
-    ensures* { λ r. ⌜ told_outcome r ≡ room_checks bundle.now out work ⌝ }
+    requires { layout_checks bundle.now ≡ the_result [] }
+    ensures { told_outcome result ≡ room_checks bundle.now out work }
 {
     if too_short(out, length_in(bundle), work, bundle_work(n_in(bundle))) {
         return Outcome::Refused(Refusal::Room);
@@ -40,7 +40,7 @@ fn room_checks(bundle: &[u8], out: usize, work: usize) -> Outcome
 }
 
 pub fn read_checks(bundle: &[u8], out: usize, work: usize) -> Outcome
-    ensures* { λ r. ⌜ told_outcome r ≡ read_checks bundle.now out work ⌝ }
+    ensures { told_outcome result ≡ read_checks bundle.now out work }
 {
     match layout_checks(bundle) {
         Outcome::Done => room_checks(bundle, out, work),

@@ -1,7 +1,7 @@
 // The whole file of a bundle whose layout is good, or nothing of it. No entry point and for this crate alone: the entry point has made the checks.
 ghost use Rattle.std.specs.Prelude.{◌≡◌, [], ◌≤◌, length};
 ghost use Rattle.answers.specs.Leaves.{leaving};
-ghost use Rattle.answers.specs.Refusals.{result};
+ghost use Rattle.answers.specs.Refusals.{the_result};
 ghost use Rattle.bundle_layout.specs.Fields.{k_in, n_in, length_in, held_in};
 ghost use Rattle.bundle_layout.specs.Layout.{layout_checks};
 ghost use Rattle.bundle_layout.specs.Rooms.{bundle_work};
@@ -17,10 +17,10 @@ use cells::{clear, clear_bytes};
 
 // The file, or the refusal of a block with the file's bytes zero; cells is the stated working space.
 pub fn read_all(bundle: &[u8], file: &mut [u8], cells: &mut [u32]) -> LengthAnswer
-    requires { (layout_checks bundle.now ≡ result []) × (k_in bundle.now ≤ held_in bundle.now)
+    requires { (layout_checks bundle.now ≡ the_result []) × (k_in bundle.now ≤ held_in bundle.now)
         × (length file.old ≡ length_in bundle.now) × (length cells.old ≡ bundle_work (n_in bundle.now)) }
-    ensures* { λ r. ⌜ leaving (told_length r) file.new cells.new
-        ≡ read_all_leaves bundle.now file.old cells.old ⌝ }
+    ensures { leaving (told_length result) file.new cells.new
+        ≡ read_all_leaves bundle.now file.old cells.old }
 {
     let missing = start(bundle, cells);
     match read_blocks(bundle, missing, file, cells) {

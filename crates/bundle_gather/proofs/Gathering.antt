@@ -11,7 +11,7 @@ use native.Mathlib.Omega.{arith}
 use lib.ListN.{length, get_or, take, drop, set, replicate, length-set, length-append, length-drop, length-replicate, get_or-replicate, get_or-append}
 use lib.Seq.{length-take-le, get_or-set_same, get_or-set_other, drop-append-add, drop-drop}
 use Rattle.field.specs.Field.{product}
-use Rattle.answers.specs.Refusals.{result}
+use Rattle.answers.specs.Refusals.{the_result}
 use Rattle.field.specs.Size.{size_of}
 use Rattle.bundle_storage.specs.Bytes.{Bytes}
 use Rattle.bundle_storage.specs.Storage.{body_size, body_good, symbol_in, words_at, Placed}
@@ -33,7 +33,7 @@ pub record Passed (s : List ℕ) (b t : ℕ) (cells : List ℕ) : Type 0 where
   pub moved : (i : ℕ) → i < t → get_or cells (6 * size_of (n_in s) + i) 0 ≡ cursor_held s (suc b) i
   pub left : (i : ℕ) → t ≤ i → i < held_in s → get_or cells (6 * size_of (n_in s) + i) 0 ≡ cursor_held s b i
 
-module _ (s : List ℕ) (good : layout_checks s ≡ result []) where
+module _ (s : List ℕ) (good : layout_checks s ≡ the_result []) where
   module _ (t : ℕ) (h : t < held_in s) where
     body_held : body_good (blocks_in s) (count_in s t) (drop (offset_in s t) s) ≡ true
     body_held = subst (λ (at : ℕ). body_good (blocks_in s) (count_in s t) (drop at s) ≡ true) (sym (offset_is_start s good t h)) (body_passed s good t h)

@@ -8,7 +8,7 @@ use native.Mathlib.Omega.{arith}
 use lib.ListN.{length, get_or, drop}
 use lib.Seq.{get_or-drop}
 use Rattle.field.specs.Congruence.{◌≈◌}
-use Rattle.answers.specs.Refusals.{result}
+use Rattle.answers.specs.Refusals.{the_result}
 use Rattle.field.specs.Size.{size_of}
 use Rattle.limits.proofs.Shape.{longest_le, size_le}
 use Rattle.field.proofs.Sizes.{size_enough}
@@ -27,7 +27,7 @@ same_later m i a b same h =
     ∙ ap (λ (l : List ℕ). get_or l (i - m) 0) same
     ∙ get_or-drop m b (i - m) 0 ∙ ap (λ (z : ℕ). get_or b z 0) {x = m + (i - m)} {y = i} (omega arith)
 
-module _ (s : List ℕ) (good : layout_checks s ≡ result []) where
+module _ (s : List ℕ) (good : layout_checks s ≡ the_result []) where
   pub n_in_size : n_in s ≤ size_of (n_in s)
   n_in_size = size_enough (n_in s) (le_trans (n_limited s good) longest_le)
 

@@ -13,7 +13,7 @@ use lib.Dec.{eqb}
 use lib.ListN.{length, get_or, set, length-set, length-replicate, replicate, get_or-replicate}
 use lib.Seq.{get_or-set_same, get_or-set_other}
 use Rattle.field.specs.Points.{point_of}
-use Rattle.answers.specs.Refusals.{result}
+use Rattle.answers.specs.Refusals.{the_result}
 use Rattle.field.specs.Size.{size_of}
 use Rattle.lists.specs.Tab.{tab}
 use Rattle.lists.proofs.Tab.{tab_length, tab_at}
@@ -73,7 +73,7 @@ module _ (s : List ℕ) where
       earlier : ((i : ℕ) × (i < t) × (position_in s i ≡ j)) → (i : ℕ) × (i < suc t) × (position_in s i ≡ j)
       earlier (i, l, is) = (i, omega (arith, l), is)
 
-  module _ (good : layout_checks s ≡ result []) where
+  module _ (good : layout_checks s ≡ the_result []) where
     pub position_inside : (t : ℕ) → t < held_in s → position_in s t < size_of (n_in s)
     position_inside t h = lt_of_lt_of_le (position_below s good t h) (n_in_size s good)
 

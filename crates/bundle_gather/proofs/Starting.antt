@@ -11,7 +11,7 @@ use native.Mathlib.Omega.{arith}
 use lib.ListN.{length, get_or, take, drop, set, length-set, length-drop}
 use lib.Seq.{length-take-le, get_or-set_same, get_or-set_other, get_or-take, get_or-drop, drop-drop, ext_get_or}
 use Rattle.field.specs.Congruence.{◌≈◌}
-use Rattle.answers.specs.Refusals.{result}
+use Rattle.answers.specs.Refusals.{the_result}
 use Rattle.limits.specs.Shape.{bad_shape}
 use Rattle.field.specs.Size.{size_of}
 use Rattle.poly.specs.Products.{vanishing}
@@ -53,7 +53,7 @@ shadows_none s cells = record { words = λ t h. absurd (none h); cursors = λ t 
     none : {t : ℕ} → t < 0 → ⊥
     none h = omega arith
 
-module _ (s : List ℕ) (good : layout_checks s ≡ result []) (t size : ℕ) (h : t < held_in s) (size_is : size ≡ size_of (n_in s)) (cells now : List ℕ) (long : length cells ≡ 8 * size)
+module _ (s : List ℕ) (good : layout_checks s ≡ the_result []) (t size : ℕ) (h : t < held_in s) (size_is : size ≡ size_of (n_in s)) (cells now : List ℕ) (long : length cells ≡ 8 * size)
     (is : now ≡ set (set (set cells (5 * size + t) (words_held s t)) (6 * size + t) (cursor_held s 0 t)) (7 * size + t) (position_in s t)) where
   first : List ℕ
   first = set cells (5 * size + t) (words_held s t)
@@ -149,7 +149,7 @@ with_marks N cells marks = take (2 * N) cells ++ (marks ++ drop (3 * N - 2 * N) 
 abbrev with_front : ℕ → List ℕ → List ℕ → List ℕ
 with_front N cells front = front ++ drop (4 * N - 0) cells
 
-module _ (s : List ℕ) (good : layout_checks s ≡ result []) (laid marks : List ℕ) (long : length laid ≡ 8 * size_of (n_in s)) (is_marks : marks ≡ marks_in s (held_in s)) where
+module _ (s : List ℕ) (good : layout_checks s ≡ the_result []) (laid marks : List ℕ) (long : length laid ≡ 8 * size_of (n_in s)) (is_marks : marks ≡ marks_in s (held_in s)) where
   marked_cells : List ℕ
   marked_cells = with_marks (size_of (n_in s)) laid marks
 
@@ -265,7 +265,7 @@ module _ (s : List ℕ) (good : layout_checks s ≡ result []) (laid marks : Lis
 
 -- The same with k, n and N as the code has them
 
-module _ (s : List ℕ) (good : layout_checks s ≡ result []) where
+module _ (s : List ℕ) (good : layout_checks s ≡ the_result []) where
   pub marks_room : (size : ℕ) (cells : List ℕ) → size ≡ size_of (n_in s) → length cells ≡ 8 * size → length (take (3 * size - 2 * size) (drop (2 * size) cells)) ≡ size_of (n_in s)
   marks_room size cells is long = length-take-le (3 * size - 2 * size) (drop (2 * size) cells) (omega (arith, long, length-drop (2 * size) cells)) ∙ omega (arith, is)
 

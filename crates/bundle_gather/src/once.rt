@@ -2,7 +2,7 @@
 // powers of ψ among them; behind them stand the weights M(x), and for each held shadow where its words begin, its cursor and its position.
 // No entry points: the callers have made the checks.
 ghost use Rattle.std.specs.Prelude.{◌≡◌, [], ◌*◌, ◌<◌, ◌≤◌, length};
-ghost use Rattle.answers.specs.Refusals.{result};
+ghost use Rattle.answers.specs.Refusals.{the_result};
 ghost use Rattle.field.specs.Size.{size_of};
 ghost use Rattle.bundle_layout.specs.Fields.{k_in, n_in, held_in};
 ghost use Rattle.bundle_layout.specs.Layout.{layout_checks};
@@ -17,9 +17,9 @@ use field::size;
 
 // Shadow t; size is N.
 fn lay_shadow(bundle: &[u8], size: usize, t: usize, cells: &mut [u32])
-    requires { (layout_checks bundle.now ≡ result []) × (t < held_in bundle.now)
+    requires { (layout_checks bundle.now ≡ the_result []) × (t < held_in bundle.now)
         × (size ≡ size_of (n_in bundle.now)) × (length cells.old ≡ 8 * size) }
-    ensures* { λ _. ⌜ cells.new ≡ with_shadow bundle.now size t cells.old ⌝ }
+    ensures { cells.new ≡ with_shadow bundle.now size t cells.old }
 {
     let at = offset_in(bundle, t);
     cells[5 * size + t] = words_at(at, count_in(bundle, t)) as u32;
@@ -28,9 +28,9 @@ fn lay_shadow(bundle: &[u8], size: usize, t: usize, cells: &mut [u32])
 }
 
 fn lay_shadows(bundle: &[u8], size: usize, cells: &mut [u32])
-    requires { (layout_checks bundle.now ≡ result []) × (size ≡ size_of (n_in bundle.now))
+    requires { (layout_checks bundle.now ≡ the_result []) × (size ≡ size_of (n_in bundle.now))
         × (length cells.old ≡ 8 * size) }
-    ensures* { λ _. ⌜ Shadows bundle.now (held_in bundle.now) cells.new ⌝ }
+    ensures { Shadows bundle.now (held_in bundle.now) cells.new }
 {
     let held = held_in(bundle);
     let mut t = 0;
@@ -41,8 +41,8 @@ fn lay_shadows(bundle: &[u8], size: usize, cells: &mut [u32])
 }
 
 fn mark_held(bundle: &[u8], marks: &mut [u32])
-    requires { (layout_checks bundle.now ≡ result []) × (length marks.old ≡ size_of (n_in bundle.now)) }
-    ensures* { λ _. ⌜ marks.new ≡ marks_in bundle.now (held_in bundle.now) ⌝ }
+    requires { (layout_checks bundle.now ≡ the_result []) × (length marks.old ≡ size_of (n_in bundle.now)) }
+    ensures { marks.new ≡ marks_in bundle.now (held_in bundle.now) }
 {
     clear(marks);
     let held = held_in(bundle);
@@ -56,7 +56,7 @@ fn mark_held(bundle: &[u8], marks: &mut [u32])
 // The weights, which the preparation leaves in front, to where no block changes them.
 fn keep_weights(size: usize, cells: &mut [u32])
     requires { length cells.old ≡ 8 * size }
-    ensures* { λ _. ⌜ cells.new ≡ with_weights size cells.old ⌝ }
+    ensures { cells.new ≡ with_weights size cells.old }
 {
     let from = 4 * size;
     let mut j = 0;
@@ -68,9 +68,9 @@ fn keep_weights(size: usize, cells: &mut [u32])
 
 // Every cursor at the front of its list; what is returned is how many positions are missing.
 pub fn start(bundle: &[u8], cells: &mut [u32]) -> usize
-    requires { (layout_checks bundle.now ≡ result []) × (k_in bundle.now ≤ held_in bundle.now)
+    requires { (layout_checks bundle.now ≡ the_result []) × (k_in bundle.now ≤ held_in bundle.now)
         × (length cells.old ≡ bundle_work (n_in bundle.now)) }
-    ensures* { λ r. ⌜ (r ≡ length (missing_in bundle.now)) × Laid bundle.now 0 cells.new ⌝ }
+    ensures { (result ≡ length (missing_in bundle.now)) × Laid bundle.now 0 cells.new }
 {
     let n = n_in(bundle);
     let size = size(n);

@@ -1,7 +1,7 @@
 // The held symbols of a block, each times the weight of its position, where decoding takes them. No entry points: the working space has been
 // prepared.
 ghost use Rattle.std.specs.Prelude.{◌≡◌, [], suc, ◌+◌, ◌*◌, ◌<◌, get_or};
-ghost use Rattle.answers.specs.Refusals.{result};
+ghost use Rattle.answers.specs.Refusals.{the_result};
 ghost use Rattle.field.specs.Size.{size_of};
 ghost use Rattle.bundle_layout.specs.Fields.{n_in, held_in, blocks_in};
 ghost use Rattle.bundle_layout.specs.Layout.{layout_checks};
@@ -14,10 +14,10 @@ use field::{product, size};
 
 // What shadow t holds for block b, and its cursor on the next block; size is N.
 fn gather_one(bundle: &[u8], size: usize, b: usize, t: usize, cells: &mut [u32])
-    requires bundle_value { (layout_checks bundle.now ≡ result []) × (b < blocks_in bundle.now) × (t < held_in bundle.now)
+    requires bundle_value { (layout_checks bundle.now ≡ the_result []) × (b < blocks_in bundle.now) × (t < held_in bundle.now)
         × (size ≡ size_of (n_in bundle.now)) }
     requires fixed { Fixed bundle.now cells.old × (get_or cells.old (6 * size + t) 0 ≡ cursor_held bundle.now b t) }
-    ensures* { λ _. ⌜ cells.new ≡ with_symbol bundle.now size b t cells.old ⌝ }
+    ensures { cells.new ≡ with_symbol bundle.now size b t cells.old }
 {
     let words = wide(cells[5 * size + t]);
     let cursor = wide(cells[6 * size + t]);
@@ -30,9 +30,9 @@ fn gather_one(bundle: &[u8], size: usize, b: usize, t: usize, cells: &mut [u32])
 
 // The values of block b.
 pub fn gather(bundle: &[u8], b: usize, cells: &mut [u32])
-    requires { (layout_checks bundle.now ≡ result []) × (b < blocks_in bundle.now) × Laid bundle.now b cells.old }
-    ensures* { λ _. ⌜ Laid bundle.now (suc b) cells.new
-        × Gathered bundle.now b (held_in bundle.now) cells.new ⌝ }
+    requires { (layout_checks bundle.now ≡ the_result []) × (b < blocks_in bundle.now) × Laid bundle.now b cells.old }
+    ensures { Laid bundle.now (suc b) cells.new
+        × Gathered bundle.now b (held_in bundle.now) cells.new }
 {
     let size = size(n_in(bundle));
     let held = held_in(bundle);

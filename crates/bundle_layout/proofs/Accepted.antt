@@ -9,7 +9,7 @@ use borrow.Author.Tests.{eqb-true, not-false}
 use lib.Dec.{eqb}
 use lib.ListN.{length, get_or, take, drop, length-map, take-append-drop, drop_of_length-le}
 use lib.Seq.{length-take-le, get_or-take, ext_get_or, drop-drop}
-use Rattle.answers.specs.Refusals.{result}
+use Rattle.answers.specs.Refusals.{the_result}
 use Rattle.lists.specs.Tab.{tab}
 use Rattle.bundle_storage.specs.Bytes.{Bytes, two, four}
 use Rattle.bundle_layout.specs.Fields.{k_in, n_in, length_in, held_in, last_in, blocks_in, entry_at, position_in, count_in, offset_in}
@@ -41,7 +41,7 @@ three a b c q = simp append_assoc
 six : (a b c d e f q : List ℕ) → (a ++ (b ++ (c ++ (d ++ (e ++ f))))) ++ q ≡ a ++ (b ++ (c ++ (d ++ (e ++ (f ++ q)))))
 six a b c d e f q = simp append_assoc
 
-module _ (s : List ℕ) (bytes : Bytes s) (passes : layout_checks s ≡ result []) where
+module _ (s : List ℕ) (bytes : Bytes s) (passes : layout_checks s ≡ the_result []) where
   -- A shadow
 
   stored_there : (t : ℕ) → t < held_in s → Stored (blocks_in s) (shadow_in s t)

@@ -10,7 +10,7 @@ use lib.Dec.{lit≤}
 use lib.ListN.{length, get_or, take, drop, length-append}
 use lib.Seq.{take_at}
 use Rattle.answers.specs.First.{first}
-use Rattle.answers.specs.Refusals.{result}
+use Rattle.answers.specs.Refusals.{the_result}
 use Rattle.bundle_layout.specs.Blocks.{blocks_of}
 use Rattle.bundle_storage.specs.Bytes.{two, four, two_at, four_at}
 use Rattle.bundle_layout.specs.Fields.{k_in, n_in, length_in, held_in, last_in, blocks_in, entry_at, position_in, count_in, offset_in}
@@ -206,7 +206,7 @@ module _ (k n L : ℕ) (hs : List Shadow) (s : List ℕ) (is : IsBundle k n L hs
   unfolding bundle_of
   front_good = ap bad_front is.written ∙ header_front k n L (length hs) _
 
-  pub passes : layout_checks s ≡ result []
+  pub passes : layout_checks s ≡ the_result []
   passes = tests_pass s front_good (rw (read_k, read_n, read_L) is.shape) rest_good_lem
 
   read_shadow : (t : ℕ) → t < length hs → shadow_in s t ≡ shadow_at hs t

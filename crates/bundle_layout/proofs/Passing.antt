@@ -11,7 +11,7 @@ use borrow.Author.Tests.{ltb-false, leb-true, eqb-true, not-false}
 use lib.Dec.{ltb, leb}
 use lib.ListN.{length, drop}
 use Rattle.answers.specs.First.{first}
-use Rattle.answers.specs.Refusals.{result}
+use Rattle.answers.specs.Refusals.{the_result}
 use Rattle.limits.specs.Shape.{longest, bad_shape}
 use Rattle.answers.specs.declared.refusal.Refusal.TheVariants.{Shape, Form}
 use Rattle.answers.proofs.Checks.{passed, or_false}
@@ -33,17 +33,17 @@ use Rattle.bundle_layout.proofs.Entries.{body_inside, entry_inside, entry_told}
 
 -- The three tests, both ways
 
-pub tests_passed : (s : List ℕ) → layout_checks s ≡ result []
+pub tests_passed : (s : List ℕ) → layout_checks s ≡ the_result []
     → (bad_front s ≡ false) × (bad_bundle_shape (k_in s) (n_in s) (length_in s) ≡ false) × (rest_good s ≡ true)
 unfolding layout_checks
 tests_passed s e =
     let front = passed (bad_front s) Form _ [] e in
     let shape = passed (bad_bundle_shape (k_in s) (n_in s) (length_in s)) Shape _ [] front.1 in
-    let rest = passed (not (rest_good s)) Form (result []) [] shape.1 in
+    let rest = passed (not (rest_good s)) Form (the_result []) [] shape.1 in
     (front.0, shape.0, not-false (rest_good s) rest.0)
 
 pub tests_pass : (s : List ℕ) → bad_front s ≡ false → bad_bundle_shape (k_in s) (n_in s) (length_in s) ≡ false → rest_good s ≡ true
-    → layout_checks s ≡ result []
+    → layout_checks s ≡ the_result []
 unfolding layout_checks
 tests_pass s front shape rest = simp (front, shape, rest)
 
@@ -101,7 +101,7 @@ starts_inside s h fine (suc t) l =
 
 -- What bytes that pass are
 
-module _ (s : List ℕ) (good : layout_checks s ≡ result []) where
+module _ (s : List ℕ) (good : layout_checks s ≡ the_result []) where
   pub header_inside : header_size ≤ length s
   header_inside = (front_told s (tests_passed s good).0).0
 

@@ -1,6 +1,6 @@
 -- What a bundle's header and table say, after the tests of its layout.
 use Rattle.std.specs.Prelude.{List, [], ◌∷◌, ℕ, leb}
-use Rattle.answers.specs.Refusals.{Answer, result, refused, refuse_if, after}
+use Rattle.answers.specs.Refusals.{Answer, the_result, refused, refuse_if, after}
 use Rattle.answers.specs.declared.refusal.Refusal.TheVariants.{Position}
 use Rattle.bundle_layout.specs.Fields.{k_in, n_in, length_in, held_in, blocks_in, position_in, count_in, offset_in}
 use Rattle.bundle_layout.specs.Layout.{layout_checks}
@@ -11,20 +11,20 @@ use Rattle.bundle_layout.specs.declared.facts.FactsAnswer.TheVariants as F
 
 -- k, n, L, how many shadows are held, B
 unfoldable pub facts_answer : List ℕ → Answer
-facts_answer s = after (layout_checks s) (result (k_in s ∷ n_in s ∷ length_in s ∷ held_in s ∷ blocks_in s ∷ []))
+facts_answer s = after (layout_checks s) (the_result (k_in s ∷ n_in s ∷ length_in s ∷ held_in s ∷ blocks_in s ∷ []))
 
 -- position, offset and overflow count of entry t; an entry that the table has not is refused by POSITION
 unfoldable pub entry_answer : List ℕ → ℕ → Answer
 entry_answer s t =
     after (layout_checks s)
-    (refuse_if (leb (held_in s) t) (Position 0) (result (position_in s t ∷ offset_in s t ∷ count_in s t ∷ [])))
+    (refuse_if (leb (held_in s) t) (Position 0) (the_result (position_in s t ∷ offset_in s t ∷ count_in s t ∷ [])))
 
 -- the answers of the code, on paper
 
 abbrev pub told_facts : FactsAnswer → Answer
-told_facts (F.Facts f) = result (f.k ∷ f.n ∷ f.length ∷ f.held ∷ f.blocks ∷ [])
+told_facts (F.Facts f) = the_result (f.k ∷ f.n ∷ f.length ∷ f.held ∷ f.blocks ∷ [])
 told_facts (F.Refused x) = refused x
 
 abbrev pub told_entry : EntryAnswer → Answer
-told_entry (E.Entry e) = result (e.position ∷ e.offset ∷ e.count ∷ [])
+told_entry (E.Entry e) = the_result (e.position ∷ e.offset ∷ e.count ∷ [])
 told_entry (E.Refused x) = refused x

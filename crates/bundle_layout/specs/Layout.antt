@@ -2,7 +2,7 @@
 -- Theorems.antt says that exactly the bundles of Shadows.antt pass.
 use Rattle.std.specs.Prelude.{Bool, ◌&&◌, ◌||◌, not, List, [], ℕ, zero, suc, ◌+◌, leb, ltb, eqb, length, drop}
 use Rattle.answers.specs.First.{first}
-use Rattle.answers.specs.Refusals.{Answer, result, refuse_if}
+use Rattle.answers.specs.Refusals.{Answer, the_result, refuse_if}
 use Rattle.answers.specs.declared.refusal.Refusal.TheVariants.{Shape, Form}
 use Rattle.bundle_layout.specs.Shape.{bad_bundle_shape}
 use Rattle.bundle_layout.specs.Fields.{k_in, n_in, length_in, held_in, last_in, blocks_in, position_in, count_in, offset_in}
@@ -34,4 +34,4 @@ rest_good s =
 unfoldable pub layout_checks : List ℕ → Answer
 layout_checks s =
     refuse_if (bad_front s) Form
-    (refuse_if (bad_bundle_shape (k_in s) (n_in s) (length_in s)) Shape (refuse_if (not (rest_good s)) Form (result [])))
+    (refuse_if (bad_bundle_shape (k_in s) (n_in s) (length_in s)) Shape (refuse_if (not (rest_good s)) Form (the_result [])))

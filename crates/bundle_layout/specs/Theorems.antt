@@ -1,6 +1,6 @@
 -- What is proved of the layout, as statements: proofs/Theorems.antt proves each under the same name in small letters.
 use Rattle.std.specs.Prelude.{◌≡◌, List, [], ℕ}
-use Rattle.answers.specs.Refusals.{result}
+use Rattle.answers.specs.Refusals.{the_result}
 use Rattle.bundle_storage.specs.Bytes.{Bytes}
 use Rattle.bundle_layout.specs.Facts.{told_facts, told_entry, facts_answer, entry_answer}
 use Rattle.bundle_layout.specs.Fields.{k_in, n_in, length_in}
@@ -16,12 +16,12 @@ use Rattle.bundle_layout.specs.declared.facts.FactsAnswer.{FactsAnswer}
 abbrev pub BundleAccepted : Type 0
 BundleAccepted =
     (k n L : ℕ) (hs : List Shadow) (s : List ℕ) → IsBundle k n L hs s
-    → (layout_checks s ≡ result []) × (k_in s ≡ k) × (n_in s ≡ n) × (length_in s ≡ L) × (shadows_in s ≡ hs)
+    → (layout_checks s ≡ the_result []) × (k_in s ≡ k) × (n_in s ≡ n) × (length_in s ≡ L) × (shadows_in s ≡ hs)
 
 -- and bytes that pass are the bundle of what is read
 abbrev pub AcceptedBundle : Type 0
 AcceptedBundle =
-    (s : List ℕ) → Bytes s → layout_checks s ≡ result [] → IsBundle (k_in s) (n_in s) (length_in s) (shadows_in s) s
+    (s : List ℕ) → Bytes s → layout_checks s ≡ the_result [] → IsBundle (k_in s) (n_in s) (length_in s) (shadows_in s) s
 
 -- bytes are a bundle in one way only
 abbrev pub OneReading : Type 0

@@ -1,7 +1,7 @@
 // No entry points: the fields of a bundle and the tests of its layout, for the entry points here and in the crates above. Those that read a
 // field ask that it is there.
 ghost use Rattle.std.specs.Prelude.{◌≡◌, [], ◌+◌, ◌<◌, ◌≤◌, length};
-ghost use Rattle.answers.specs.Refusals.{result};
+ghost use Rattle.answers.specs.Refusals.{the_result};
 ghost use Rattle.limits.specs.Shape.{longest};
 ghost use Rattle.bundle_storage.specs.Blocks.{most_blocks};
 ghost use Rattle.bundle_layout.specs.Blocks.{blocks_of};
@@ -16,7 +16,7 @@ use bundle_storage::{four_at, two_at};
 // B.
 pub fn blocks(k: usize, length: usize) -> usize
     requires { (0 < k) × (k ≤ longest) × (length ≤ longest_file) }
-    ensures* { λ r. ⌜ r ≡ blocks_of k length ⌝ }
+    ensures { result ≡ blocks_of k length }
 {
     (length + (2 * k - 1)) / (2 * k)
 }
@@ -24,36 +24,36 @@ pub fn blocks(k: usize, length: usize) -> usize
 // The fields of the header.
 pub fn k_in(bundle: &[u8]) -> usize
     requires { header_size ≤ length bundle.now }
-    ensures* { λ r. ⌜ (r ≡ k_in bundle.now) × (r < 65536) ⌝ }
+    ensures { (result ≡ k_in bundle.now) × (result < 65536) }
 {
     two_at(bundle, 4)
 }
 
 pub fn n_in(bundle: &[u8]) -> usize
     requires { header_size ≤ length bundle.now }
-    ensures* { λ r. ⌜ (r ≡ n_in bundle.now) × (r < 65536) ⌝ }
+    ensures { (result ≡ n_in bundle.now) × (result < 65536) }
 {
     two_at(bundle, 6)
 }
 
 pub fn length_in(bundle: &[u8]) -> usize
     requires { header_size ≤ length bundle.now }
-    ensures* { λ r. ⌜ (r ≡ length_in bundle.now) × (r < 4294967296) ⌝ }
+    ensures { (result ≡ length_in bundle.now) × (result < 4294967296) }
 {
     four_at(bundle, 8)
 }
 
 pub fn held_in(bundle: &[u8]) -> usize
     requires { header_size ≤ length bundle.now }
-    ensures* { λ r. ⌜ (r ≡ held_in bundle.now) × (r < 65536) ⌝ }
+    ensures { (result ≡ held_in bundle.now) × (result < 65536) }
 {
     two_at(bundle, 12)
 }
 
 // B of a bundle whose layout is good.
 pub fn blocks_in(bundle: &[u8]) -> usize
-    requires { layout_checks bundle.now ≡ result [] }
-    ensures* { λ r. ⌜ (r ≡ blocks_in bundle.now) × (r ≤ most_blocks) ⌝ }
+    requires { layout_checks bundle.now ≡ the_result [] }
+    ensures { (result ≡ blocks_in bundle.now) × (result ≤ most_blocks) }
 {
     blocks(k_in(bundle), length_in(bundle))
 }
@@ -61,21 +61,21 @@ pub fn blocks_in(bundle: &[u8]) -> usize
 // The fields of entry t.
 pub fn position_in(bundle: &[u8], t: usize) -> usize
     requires { entry_at t + entry_size ≤ length bundle.now }
-    ensures* { λ r. ⌜ (r ≡ position_in bundle.now t) × (r < 65536) ⌝ }
+    ensures { (result ≡ position_in bundle.now t) × (result < 65536) }
 {
     two_at(bundle, 16 + 8 * t)
 }
 
 pub fn count_in(bundle: &[u8], t: usize) -> usize
     requires { entry_at t + entry_size ≤ length bundle.now }
-    ensures* { λ r. ⌜ (r ≡ count_in bundle.now t) × (r < 65536) ⌝ }
+    ensures { (result ≡ count_in bundle.now t) × (result < 65536) }
 {
     two_at(bundle, 16 + 8 * t + 2)
 }
 
 pub fn offset_in(bundle: &[u8], t: usize) -> usize
     requires { entry_at t + entry_size ≤ length bundle.now }
-    ensures* { λ r. ⌜ (r ≡ offset_in bundle.now t) × (r < 4294967296) ⌝ }
+    ensures { (result ≡ offset_in bundle.now t) × (result < 4294967296) }
 {
     four_at(bundle, 16 + 8 * t + 4)
 }

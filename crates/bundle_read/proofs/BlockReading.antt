@@ -14,7 +14,7 @@ use lib.Dec.{eqb}
 use lib.ListN.{length, get_or, take, drop, length-append, length-take, drop_of_length-le}
 use lib.Seq.{length-take-le, take_at, take_all, take-length, take-append-le, take-take}
 use Rattle.answers.specs.First.{first}
-use Rattle.answers.specs.Refusals.{Answer, result, refused, told_outcome, after}
+use Rattle.answers.specs.Refusals.{Answer, the_result, refused, told_outcome, after}
 use Rattle.field.specs.Symbol.{Symbols}
 use Rattle.answers.specs.declared.refusal.Outcome.{Outcome}
 use Rattle.answers.specs.declared.refusal.Outcome.TheVariants.{Done}
@@ -43,7 +43,7 @@ words_low message symbols good j h =
     omega (arith, symbols j h, eqb-false (get_or message j 0) 65536 (first_before (length message) (λ i. eqb (get_or message i 0) 65536) j (omega (arith, h, ltb-false _ (length message) good))))
 
 -- a refusal takes nothing
-pub refused_none : {A : Type 0} (x : Refusal) → refused x ≡ result [] → A
+pub refused_none : {A : Type 0} (x : Refusal) → refused x ≡ the_result [] → A
 refused_none x e = absurd (result_no_refusal (sym e))
 
 module _ (k L b : ℕ) (message : List ℕ) where
@@ -57,13 +57,13 @@ module _ (k L b : ℕ) (message : List ℕ) where
     unfolding judged bad_tail
     tail_told bad =
         goes_on (Word b) _ good
-        (stops (Tail b) (result []) (ap (λ (z : ℕ). some_meets (λ x. not (eqb x 0)) (drop z (in_bytes message))) (sym is) ∙ bad))
+        (stops (Tail b) (the_result []) (ap (λ (z : ℕ). some_meets (λ x. not (eqb x 0)) (drop z (in_bytes message))) (sym is) ∙ bad))
 
-    pub taken_told : some_meets (λ x. not (eqb x 0)) (drop rest (in_bytes message)) ≡ false → result [] ≡ judged k L b (some message)
+    pub taken_told : some_meets (λ x. not (eqb x 0)) (drop rest (in_bytes message)) ≡ false → the_result [] ≡ judged k L b (some message)
     unfolding judged bad_tail
     taken_told fine =
         goes_on (Word b) _ good
-        (goes_on (Tail b) (result []) (ap (λ (z : ℕ). some_meets (λ x. not (eqb x 0)) (drop z (in_bytes message))) (sym is) ∙ fine) refl)
+        (goes_on (Tail b) (the_result []) (ap (λ (z : ℕ). some_meets (λ x. not (eqb x 0)) (drop z (in_bytes message))) (sym is) ∙ fine) refl)
 
 -- Its bytes in the file
 
@@ -142,12 +142,12 @@ bytes_more s b n message file now decoded is before =
 
 -- The blocks in order
 
-module _ (s : List ℕ) (good : layout_checks s ≡ result []) where
+module _ (s : List ℕ) (good : layout_checks s ≡ the_result []) where
   next_left : (b : ℕ) → b < blocks_in s → blocks_answer s b (blocks_in s - b) ≡ after (block_answer s b) (blocks_answer s (suc b) (blocks_in s - suc b))
   unfolding blocks_answer
   next_left b h = ap (blocks_answer s b) {x = blocks_in s - b} {y = suc (blocks_in s - suc b)} (omega arith)
 
-  answer_on : (b : ℕ) → b < blocks_in s → blocks_answer s 0 (blocks_in s) ≡ blocks_answer s b (blocks_in s - b) → block_answer s b ≡ result []
+  answer_on : (b : ℕ) → b < blocks_in s → blocks_answer s 0 (blocks_in s) ≡ blocks_answer s b (blocks_in s - b) → block_answer s b ≡ the_result []
       → blocks_answer s 0 (blocks_in s) ≡ blocks_answer s (b + 1) (blocks_in s - (b + 1))
   answer_on b h so_far taken =
       so_far ∙ next_left b h ∙ ap (λ (a : Answer). after a (blocks_answer s (suc b) (blocks_in s - suc b))) taken
@@ -159,7 +159,7 @@ module _ (s : List ℕ) (good : layout_checks s ≡ result []) where
       sym (so_far ∙ next_left b h ∙ ap (λ (a : Answer). after a (blocks_answer s (suc b) (blocks_in s - suc b))) bad)
 
   pub answer_ends : (b : ℕ) → b ≤ blocks_in s → blocks_in s ≤ b → blocks_answer s 0 (blocks_in s) ≡ blocks_answer s b (blocks_in s - b)
-      → result (length_in s ∷ []) ≡ blocks_answer s 0 (blocks_in s)
+      → the_result (length_in s ∷ []) ≡ blocks_answer s 0 (blocks_in s)
   unfolding blocks_answer
   answer_ends b le ge so_far = sym (so_far ∙ ap (blocks_answer s b) {x = blocks_in s - b} {y = 0} (omega arith))
 
@@ -194,9 +194,9 @@ taken_none s file cells laid long =
     }
 
 -- after and room are what the file and the cells hold once block b was taken
-pub taken_more : (s : List ℕ) (b : ℕ) (file cells after room : List ℕ) (o : Outcome) → layout_checks s ≡ result [] → b < blocks_in s → Taken s b file cells
+pub taken_more : (s : List ℕ) (b : ℕ) (file cells after room : List ℕ) (o : Outcome) → layout_checks s ≡ the_result [] → b < blocks_in s → Taken s b file cells
     → told_outcome o ≡ block_answer s b → o ≡ Done → Laid s (suc b) room → length after ≡ length file
-    → (told_outcome o ≡ result [] → take (2 * (k_in s * b)) file ≡ take (length file) (bytes_before s b) → take (2 * (k_in s * suc b)) after ≡ take (length file) (bytes_before s (suc b)))
+    → (told_outcome o ≡ the_result [] → take (2 * (k_in s * b)) file ≡ take (length file) (bytes_before s b) → take (2 * (k_in s * suc b)) after ≡ take (length file) (bytes_before s (suc b)))
     → Taken s (b + 1) after room
 taken_more s b file cells after room o good h taken told done laid same more =
     record {

@@ -11,7 +11,7 @@ use lib.ListN.{length, get_or, take, drop, length-append, length-drop, take-appe
 use lib.Seq.{length-take-le, get_or-take, get_or-drop, take-append-le, drop-append-le, ext_get_or}
 use Rattle.field.specs.Congruence.{◌≈◌}
 use Rattle.field.specs.Field.{power}
-use Rattle.answers.specs.Refusals.{result}
+use Rattle.answers.specs.Refusals.{the_result}
 use Rattle.limits.specs.Shape.{bad_shape}
 use Rattle.field.specs.Size.{size_of}
 use Rattle.field.specs.Symbol.{Symbols}
@@ -51,7 +51,7 @@ front_kept m e cells part le inside same kept =
     ∙ sym (drop-append-le m (take e cells) (drop e cells) (omega (arith, length-take-le e cells inside)))
     ∙ ap (drop m) (take-append-drop e cells)
 
-module _ (s : List ℕ) (b : ℕ) (cells : List ℕ) (bytes : Bytes s) (good : layout_checks s ≡ result []) (enough : k_in s ≤ held_in s)
+module _ (s : List ℕ) (b : ℕ) (cells : List ℕ) (bytes : Bytes s) (good : layout_checks s ≡ the_result []) (enough : k_in s ≤ held_in s)
     (laid : Laid s (suc b) cells) (gathered : Gathered s b (held_in s) cells) where
   -- what is lent to division, and the values in it
   part : List ℕ

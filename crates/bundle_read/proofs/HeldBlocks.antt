@@ -6,7 +6,7 @@ use Prim.Native.Nat.{ℕ, ◌<◌, ◌≤◌}
 use native.Mathlib.Omega.{arith}
 use lib.ListN.{length, get_or, drop}
 use Rattle.field.specs.Field.{product}
-use Rattle.answers.specs.Refusals.{result}
+use Rattle.answers.specs.Refusals.{the_result}
 use Rattle.field.specs.Size.{size_of}
 use Rattle.poly.proofs.Symbols.{tab_symbols}
 use Rattle.lists.proofs.Tab.{tab_length, tab_at}
@@ -42,7 +42,7 @@ module _ (s : List ℕ) (b : ℕ) where
   unfolding symbol_held
   symbol_held_lem bytes t = symbols_read (count_in s t) b (drop (offset_in s t) s) (bytes_drop (offset_in s t) s bytes)
 
-  pub held_decodable : Bytes s → layout_checks s ≡ result [] → k_in s ≤ held_in s → Decodable (k_in s) (n_in s) (held_at s b)
+  pub held_decodable : Bytes s → layout_checks s ≡ the_result [] → k_in s ≤ held_in s → Decodable (k_in s) (n_in s) (held_at s b)
   unfolding held_at held
   held_decodable bytes good enough =
       record {
@@ -57,12 +57,12 @@ module _ (s : List ℕ) (b : ℕ) where
         symbols = tab_symbols (held_in s) (symbol_held s b) (λ i h. symbol_held_lem bytes i);
       }
 
-  pub held_marked : layout_checks s ≡ result [] → Marks (size_of (n_in s)) (held_at s b).positions (marks_in s (held_in s))
+  pub held_marked : layout_checks s ≡ the_result [] → Marks (size_of (n_in s)) (held_at s b).positions (marks_in s (held_in s))
   unfolding held_at held
   held_marked good = marked s good
 
   -- list is the front of the cells into which the block is gathered
-  pub weighted : layout_checks s ≡ result [] → (cells : List ℕ) → Gathered s b (held_in s) cells → (list : List ℕ) → length list ≡ size_of (n_in s)
+  pub weighted : layout_checks s ≡ the_result [] → (cells : List ℕ) → Gathered s b (held_in s) cells → (list : List ℕ) → length list ≡ size_of (n_in s)
       → ((i : ℕ) → i < size_of (n_in s) → get_or list i 0 ≡ get_or cells i 0) → Weighted (size_of (n_in s)) (marks_in s (held_in s)) (held_at s b) list
   unfolding missing_in weighted_held symbol_held
   weighted good cells gathered list long same =

@@ -2,7 +2,7 @@
 use Rattle.std.specs.Prelude.{◌≡◌, Bool, not, List, [], ◌∷◌, ◌++◌, ℕ, zero, suc, ◌*◌, ◌-◌, ltb, eqb, length, get_or, take, drop}
 use Rattle.std.proofs.Math.Option.{Option, some, none}
 use Rattle.answers.specs.First.{first}
-use Rattle.answers.specs.Refusals.{Answer, result, refused, refuse_if, after}
+use Rattle.answers.specs.Refusals.{Answer, the_result, refused, refuse_if, after}
 use Rattle.answers.specs.declared.refusal.Refusal.TheVariants.{Disagree, Word, Tail}
 use Rattle.lists.specs.Tab.{tab}
 use Rattle.code.specs.Decoding.{decode_of}
@@ -38,14 +38,14 @@ bad_tail k L b message = some_meets (λ x. not (eqb x 0)) (drop (L - 2 * (k * b)
 -- "block by block DISAGREE, WORD, TAIL", with the block as the place
 unfoldable pub judged : ℕ → ℕ → ℕ → Option (List ℕ) → Answer
 judged k L b none = refused (Disagree b)
-judged k L b (some message) = refuse_if (bad_word message) (Word b) (refuse_if (bad_tail k L b message) (Tail b) (result []))
+judged k L b (some message) = refuse_if (bad_word message) (Word b) (refuse_if (bad_tail k L b message) (Tail b) (the_result []))
 
 unfoldable pub block_answer : List ℕ → ℕ → Answer
 block_answer s b = judged (k_in s) (length_in s) b (decoded_at s b)
 
 -- the blocks from b on, so many: the first that is refused, else L, which the reader returns
 unfoldable pub blocks_answer : List ℕ → ℕ → ℕ → Answer
-blocks_answer s b zero = result (length_in s ∷ [])
+blocks_answer s b zero = the_result (length_in s ∷ [])
 blocks_answer s b (suc left) = after (block_answer s b) (blocks_answer s (suc b) left)
 
 -- the bytes of a block's message

@@ -1,7 +1,7 @@
 // Reading a bundle whose layout is good, block by block. No entry points: the callers have made the checks and prepared the working space.
 ghost use Rattle.std.specs.Prelude.{◌≡◌, [], ◌∷◌, ◌++◌, suc, ◌*◌, ◌<◌, ◌≤◌, length, take};
 ghost use Rattle.std.proofs.Math.Option.{some};
-ghost use Rattle.answers.specs.Refusals.{result, told_outcome, after};
+ghost use Rattle.answers.specs.Refusals.{the_result, told_outcome, after};
 ghost use Rattle.field.specs.Symbol.{Symbols};
 ghost use Rattle.bundle_storage.specs.Bytes.{in_bytes};
 ghost use Rattle.bundle_layout.specs.Fields.{k_in, length_in, held_in, blocks_in};
@@ -18,14 +18,14 @@ use field::size;
 
 // The message of block b into the file, or WORD or TAIL.
 fn take_message(bundle: &[u8], b: usize, message: &[u32], file: &mut [u8]) -> Outcome
-    requires bundle_value { (layout_checks bundle.now ≡ result []) × (b < blocks_in bundle.now) }
+    requires bundle_value { (layout_checks bundle.now ≡ the_result []) × (b < blocks_in bundle.now) }
     requires message_len { (length message.now ≡ k_in bundle.now) × Symbols message.now }
-    ensures* r_value { λ r. ⌜ told_outcome r
-        ≡ judged (k_in bundle.now) (length_in bundle.now) b (some message.now) ⌝ }
-    ensures* fact { λ r. ⌜ (told_outcome r ≡ result []
+    ensures r_value { told_outcome result
+        ≡ judged (k_in bundle.now) (length_in bundle.now) b (some message.now) }
+    ensures fact { told_outcome result ≡ the_result []
         → take (2 * (k_in bundle.now * suc b)) file.new
         ≡ take (length file.old)
-        (take (2 * (k_in bundle.now * b)) file.old ++ in_bytes message.now)) ⌝ }
+        (take (2 * (k_in bundle.now * b)) file.old ++ in_bytes message.now) }
 {
     let from = 2 * (k_in(bundle) * b);
     if bad_word(message) {
@@ -46,14 +46,14 @@ fn read_block(
     file: &mut [u8],
     cells: &mut [u32],
 ) -> Outcome
-    requires bundle_value { (layout_checks bundle.now ≡ result []) × (b < blocks_in bundle.now)
+    requires bundle_value { (layout_checks bundle.now ≡ the_result []) × (b < blocks_in bundle.now)
         × (k_in bundle.now ≤ held_in bundle.now) }
     requires missing_value { (missing ≡ length (missing_in bundle.now)) × Laid bundle.now b cells.old }
-    ensures* r_value { λ r. ⌜ told_outcome r ≡ block_answer bundle.now b ⌝ }
-    ensures* fact { λ _. ⌜ Laid bundle.now (suc b) cells.new ⌝ }
-    ensures* fact_2 { λ r. ⌜ (told_outcome r ≡ result []
+    ensures r_value { told_outcome result ≡ block_answer bundle.now b }
+    ensures fact { Laid bundle.now (suc b) cells.new }
+    ensures fact_2 { told_outcome result ≡ the_result []
         → BlocksLaid bundle.now b (length file.old) file.old
-        → BlocksLaid bundle.now (suc b) (length file.old) file.new) ⌝ }
+        → BlocksLaid bundle.now (suc b) (length file.old) file.new }
 {
     let k = k_in(bundle);
     let n = n_in(bundle);
@@ -68,13 +68,13 @@ fn read_block(
 // The blocks in order, as far as none is refused. Of the file the first bytes are laid, as many as there is room for: a caller who only wants to
 // know whether it can be read lends none. missing is what start returned.
 pub fn read_blocks(bundle: &[u8], missing: usize, file: &mut [u8], cells: &mut [u32]) -> Outcome
-    requires bundle_value { (layout_checks bundle.now ≡ result []) × (k_in bundle.now ≤ held_in bundle.now)
+    requires bundle_value { (layout_checks bundle.now ≡ the_result []) × (k_in bundle.now ≤ held_in bundle.now)
         × (length file.old ≤ length_in bundle.now) }
     requires missing_value { (missing ≡ length (missing_in bundle.now)) × Laid bundle.now 0 cells.old }
-    ensures* bundle_value_2 { λ r. ⌜ after (told_outcome r) (result (length_in bundle.now ∷ []))
-        ≡ blocks_answer bundle.now 0 (blocks_in bundle.now) ⌝ }
-    ensures* fact { λ r. ⌜ (told_outcome r ≡ result []
-        → file.new ≡ take (length file.old) (file_in bundle.now)) ⌝ }
+    ensures bundle_value_2 { after (told_outcome result) (the_result (length_in bundle.now ∷ []))
+        ≡ blocks_answer bundle.now 0 (blocks_in bundle.now) }
+    ensures fact { told_outcome result ≡ the_result []
+        → file.new ≡ take (length file.old) (file_in bundle.now) }
 {
     let blocks = blocks_in(bundle);
     let mut b = 0;

@@ -1,7 +1,7 @@
 // A decoded message as bytes of the file. No entry points and for this crate alone: the callers have made the checks.
 ghost use Rattle.std.specs.Prelude.{◌≡◌, not, ℕ, ◌+◌, ◌*◌, ◌-◌, ◌<◌, ◌≤◌, eqb, length, get_or, drop};
 ghost use Rattle.bundle_storage.specs.Bytes.{in_bytes};
-ghost use Rattle.bundle_read.specs.Reading.{some-meets, bad_word};
+ghost use Rattle.bundle_read.specs.Reading.{some_meets, bad_word};
 ghost use Rattle.bundle_read.specs.Laying.{words_laid, bytes_laid};
 
 use bundle_storage::put_two;
@@ -33,7 +33,7 @@ fn byte_of(message: &[u32], i: usize) -> usize
 // Whether a byte of the message's words from an index on is not zero.
 pub fn bad_bytes(message: &[u32], from: usize) -> bool
     requires { (j : ℕ) → j < length message.now → get_or message.now j 0 < 65536 }
-    ensures { result ≡ some-meets (λ x. not (eqb x 0)) (drop from (in_bytes message.now)) }
+    ensures { result ≡ some_meets (λ x. not (eqb x 0)) (drop from (in_bytes message.now)) }
 {
     let mut i = from;
     while i < 2 * message.len() {

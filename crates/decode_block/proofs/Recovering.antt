@@ -13,7 +13,7 @@ use lib.ListN.{length, get_or, take, drop, replicate, length-append, length-drop
 use lib.Seq.{length-take-le, take_at, drop_at, drop-append-add, drop-drop}
 use Rattle.field.specs.Field.{product}
 use Rattle.answers.specs.Leaves.{leaving, written, zeroed}
-use Rattle.answers.specs.Refusals.{result, refused}
+use Rattle.answers.specs.Refusals.{the_result, refused}
 use Rattle.limits.specs.Shape.{bad_shape}
 use Rattle.field.specs.Size.{size_of}
 use Rattle.field.specs.Symbol.{Symbols}
@@ -201,9 +201,9 @@ module _ (k n : ℕ) (h : Held) (out cells s cleared : List ℕ) (long : length 
   all_zero = clear ∙ ap (λ (m : ℕ). replicate m 0) (same ∙ long) ∙ sym (zeroed_all (decode_work n) cells long)
 
   pub recovered : (b : Bool) (o : List ℕ) → decode_of k n h ≡ cond b (some (message_of (take k s))) none → b ≡ true
-      → o ≡ written (take (k - 0) s) out → leaving (result []) o cleared ≡ decoded (decode_of k n h) n out cells
+      → o ≡ written (take (k - 0) s) out → leaving (the_result []) o cleared ≡ decoded (decode_of k n h) n out cells
   recovered b o decodes fits is =
-      ap₂ (leaving (result []))
+      ap₂ (leaving (the_result []))
       (is ∙ ap (λ (m : ℕ). written (take m s) out) {x = k - 0} {y = k} (omega arith) ∙ ap (λ (t : List ℕ). written t out) (sym (message_is (take k s))))
       all_zero
       ∙ ap (λ (x : Option (List ℕ)). decoded x n out cells)

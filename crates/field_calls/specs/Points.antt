@@ -1,7 +1,7 @@
 -- What the point that a position stands for is answered with, by n and i.
 use Rattle.std.specs.Prelude.{[], ◌∷◌, ℕ, leb}
 use Rattle.field.specs.Points.{point_of}
-use Rattle.answers.specs.Refusals.{Answer, result, refused, refuse_if}
+use Rattle.answers.specs.Refusals.{Answer, the_result, refused, refuse_if}
 use Rattle.limits.specs.Shape.{bad_shape}
 use Rattle.field.specs.Size.{size_of}
 use Rattle.answers.specs.declared.refusal.Refusal.TheVariants.{Shape, Position}
@@ -10,9 +10,9 @@ use Rattle.field_calls.specs.declared.points.PointAnswer.TheVariants as P
 
 -- an answer of the code, on paper
 abbrev pub told_point : PointAnswer → Answer
-told_point (P.Point x) = result (x.0 ∷ [])
+told_point (P.Point x) = the_result (x.0 ∷ [])
 told_point (P.Refused x) = refused x
 
 -- "refused by SHAPE and POSITION as decode refuses with k = 1 and i as its one position"
 unfoldable pub point_answer : ℕ → ℕ → Answer
-point_answer n i = refuse_if (bad_shape 1 n) Shape (refuse_if (leb n i) (Position 0) (result (point_of (size_of n) i ∷ [])))
+point_answer n i = refuse_if (bad_shape 1 n) Shape (refuse_if (leb n i) (Position 0) (the_result (point_of (size_of n) i ∷ [])))

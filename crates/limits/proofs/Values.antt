@@ -7,7 +7,7 @@ use native.Mathlib.Nat.{le_of_eq, le_of_suc-le-suc, le_trans, lt_of_lt_of_le}
 use borrow.Author.Tests.{ltb-false, le-ltb}
 use lib.Dec.{ltb, lit<}
 use lib.ListN.{length, get_or}
-use Rattle.answers.specs.Refusals.{Answer, result, refused}
+use Rattle.answers.specs.Refusals.{Answer, the_result, refused}
 use Rattle.field.specs.Symbol.{Symbols}
 use Rattle.limits.specs.Values.{first_above, refuse_above}
 use Rattle.answers.specs.declared.refusal.Refusal.TheVariants.{Value}
@@ -24,8 +24,8 @@ above_none values later e h = passes_all Value (first_above values) (length valu
 
 -- the same where the result is one number
 pub above_none_value : (values : List ℕ) {x r v : ℕ} → x ≡ first_above values → length values ≤ x → r ≡ v
-    → result (r ∷ []) ≡ refuse_above values (result (v ∷ []))
-above_none_value values e h is = ap (λ (v : ℕ). result (v ∷ [])) is ∙ above_none values _ e h
+    → the_result (r ∷ []) ≡ refuse_above values (the_result (v ∷ []))
+above_none_value values e h is = ap (λ (v : ℕ). the_result (v ∷ [])) is ∙ above_none values _ e h
 
 pub all_symbols : (values : List ℕ) {x : ℕ} → x ≡ first_above values → length values ≤ x → (i : ℕ) → i < length values
     → get_or values i 0 < 65537

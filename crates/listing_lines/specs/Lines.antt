@@ -1,6 +1,6 @@
 -- The lines of the listing (document 01, "Worked numbers"). "Every line ends with a line feed."
 use Rattle.std.specs.Prelude.{List, ◌++◌, ℕ}
-use Rattle.answers.specs.Refusals.{Answer, result, refusal}
+use Rattle.answers.specs.Refusals.{Answer, the_result, refusal}
 use Rattle.listing_lines.specs.Text.{ascii, decimal}
 
 -- the first line, as in `k 2 n 4 length 4 held 4 blocks 1`
@@ -14,5 +14,5 @@ entry_line position offset count = decimal position ++ (ascii " " ++ (decimal of
 
 -- "The last line is OK after a full read, else REFUSED, the number and the place with single spaces between"
 unfoldable pub last_line : Answer → List ℕ
-last_line (result vs) = ascii "OK\n"
+last_line (the_result vs) = ascii "OK\n"
 last_line (refusal number place) = ascii "REFUSED " ++ (decimal number ++ (ascii " " ++ (decimal place ++ ascii "\n")))

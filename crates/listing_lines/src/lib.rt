@@ -3,7 +3,7 @@
 mod pieces;
 
 ghost use Rattle.std.specs.Prelude.{[], ◌+◌, ◌≤◌, length};
-ghost use Rattle.answers.specs.Refusals.{result, refused};
+ghost use Rattle.answers.specs.Refusals.{the_result, refused};
 ghost use Rattle.listing_lines.specs.Lines.{header_line, entry_line, last_line};
 ghost use Rattle.listing_lines.specs.Puts.{Puts};
 
@@ -20,7 +20,7 @@ pub fn put_header_line(
     at: usize,
 ) -> usize
     requires { at + 128 ≤ length out.old }
-    ensures* { λ r. ⌜ Puts (header_line k n bytes held blocks) 128 at out.old r out.new ⌝ }
+    ensures { Puts (header_line k n bytes held blocks) 128 at out.old result out.new }
 {
     let mut end = put_number(b"k ", k, out, at);
     end = put_number(b" n ", n, out, end);
@@ -38,7 +38,7 @@ pub fn put_entry_line(
     at: usize,
 ) -> usize
     requires { at + 63 ≤ length out.old }
-    ensures* { λ r. ⌜ Puts (entry_line position offset count) 63 at out.old r out.new ⌝ }
+    ensures { Puts (entry_line position offset count) 63 at out.old result out.new }
 {
     let mut end = put_number(b"", position, out, at);
     end = put_number(b" ", offset, out, end);
@@ -48,14 +48,14 @@ pub fn put_entry_line(
 
 pub fn put_ok(out: &mut [u8], at: usize) -> usize
     requires { at + 3 ≤ length out.old }
-    ensures* { λ r. ⌜ Puts (last_line (result [])) 3 at out.old r out.new ⌝ }
+    ensures { Puts (last_line (the_result [])) 3 at out.old result out.new }
 {
     put_text(b"OK\n", out, at)
 }
 
 pub fn put_refused(refusal: Refusal, out: &mut [u8], at: usize) -> usize
     requires { at + 50 ≤ length out.old }
-    ensures* { λ r. ⌜ Puts (last_line (refused refusal)) 50 at out.old r out.new ⌝ }
+    ensures { Puts (last_line (refused refusal)) 50 at out.old result out.new }
 {
     let number = answers::number(refusal) as usize;
     let mut end = put_number(b"REFUSED ", number, out, at);

@@ -10,7 +10,7 @@ use borrow.Author.Tests.{lt-ltb, le-ltb, ltb-false}
 use lib.Dec.{ltb}
 use lib.ListN.{length, get_or, drop, replicate, length-append}
 use Rattle.answers.specs.Leaves.{Leaves, leaving, written}
-use Rattle.answers.specs.Refusals.{Answer, result, refusal, number_of, refused, refuse_if, told_outcome, after}
+use Rattle.answers.specs.Refusals.{Answer, the_result, refusal, number_of, refused, refuse_if, told_outcome, after}
 use Rattle.limits.specs.Shape.{longest}
 use Rattle.field.specs.Size.{size_of}
 use Rattle.answers.specs.declared.refusal.Outcome.{Outcome}
@@ -53,42 +53,42 @@ n_served n limit =
     ]
 
 -- the checks of room and of FEW, and the blocks behind them
-after_two : (a b : Bool) (later : Answer) → after (refuse_if a Room (refuse_if b Few (result []))) later ≡ refuse_if a Room (refuse_if b Few later)
+after_two : (a b : Bool) (later : Answer) → after (refuse_if a Room (refuse_if b Few (the_result []))) later ≡ refuse_if a Room (refuse_if b Few later)
 after_two true b later = refl
 after_two false true later = refl
 after_two false false later = refl
 
 after_after : (a b later : Answer) → after (after a b) later ≡ after a (after b later)
-after_after (result vs) b later = refl
+after_after (the_result vs) b later = refl
 after_after (refusal number place) b later = refl
 
 -- The tests of the layout: what follows them counts only where all pass, and where none of 1, 3 and 11 is answered, they did
 
 abbrev tests : Bool → Bool → Bool → Answer
-tests front shape rest = refuse_if front Form (refuse_if shape Shape (refuse_if rest Form (result [])))
+tests front shape rest = refuse_if front Form (refuse_if shape Shape (refuse_if rest Form (the_result [])))
 
-tests_same : (front shape rest : Bool) (x y : Answer) → (tests front shape rest ≡ result [] → x ≡ y) → after (tests front shape rest) x ≡ after (tests front shape rest) y
+tests_same : (front shape rest : Bool) (x y : Answer) → (tests front shape rest ≡ the_result [] → x ≡ y) → after (tests front shape rest) x ≡ after (tests front shape rest) y
 tests_same true shape rest x y same = refl
 tests_same false true rest x y same = refl
 tests_same false false true x y same = refl
 tests_same false false false x y same = same refl
 
-tests_follow : (front shape rest : Bool) (later : Answer) → prints_alone (after (tests front shape rest) later) ≡ false → tests front shape rest ≡ result []
+tests_follow : (front shape rest : Bool) (later : Answer) → prints_alone (after (tests front shape rest) later) ≡ false → tests front shape rest ≡ the_result []
 unfolding prints_alone alone
 tests_follow true shape rest later e = absurd (true≢false e)
 tests_follow false true rest later e = absurd (true≢false e)
 tests_follow false false true later e = absurd (true≢false e)
 tests_follow false false false later e = refl
 
-layout_same : (s : List ℕ) (x y : Answer) → (layout_checks s ≡ result [] → x ≡ y) → after (layout_checks s) x ≡ after (layout_checks s) y
+layout_same : (s : List ℕ) (x y : Answer) → (layout_checks s ≡ the_result [] → x ≡ y) → after (layout_checks s) x ≡ after (layout_checks s) y
 unfolding layout_checks
 layout_same s = tests_same (bad_front s) (bad_bundle_shape (k_in s) (n_in s) (length_in s)) (not (rest_good s))
 
-layout_follow : (s : List ℕ) (later : Answer) → prints_alone (after (layout_checks s) later) ≡ false → layout_checks s ≡ result []
+layout_follow : (s : List ℕ) (later : Answer) → prints_alone (after (layout_checks s) later) ≡ false → layout_checks s ≡ the_result []
 unfolding layout_checks
 layout_follow s = tests_follow (bad_front s) (bad_bundle_shape (k_in s) (n_in s) (length_in s)) (not (rest_good s))
 
-served_checks : (s : List ℕ) → layout_checks s ≡ result []
+served_checks : (s : List ℕ) → layout_checks s ≡ the_result []
     → after (room_checks s most_length (8 * most_n)) (blocks_answer s 0 (blocks_in s)) ≡ served_answer s
 unfolding room_checks served_answer
 served_checks s good =
@@ -143,7 +143,7 @@ long_refused s long = rw (lt-ltb most_input (length s) long) refl
 pub layout_refused : (s : List ℕ) (x : Refusal) → length s ≤ most_input → layout_checks s ≡ refused x → refused x ≡ program_answer s
 layout_refused s x short bad = sym (ap (λ (a : Answer). after a (served_answer s)) bad) ∙ short_program s short
 
-pub layout_passed : (s : List ℕ) → length s ≤ most_input → layout_checks s ≡ result [] → served_answer s ≡ program_answer s
+pub layout_passed : (s : List ℕ) → length s ≤ most_input → layout_checks s ≡ the_result [] → served_answer s ≡ program_answer s
 layout_passed s short good = sym (ap (λ (a : Answer). after a (served_answer s)) good) ∙ short_program s short
 
 -- Where the listing is printed, the layout is good and the table short
@@ -161,7 +161,7 @@ program_follow : (s : List ℕ) → prints_alone (program_answer s) ≡ false �
 unfolding program_answer
 program_follow s e = served_follow (ltb most_input (length s)) _ e
 
-pub follows_good : (s : List ℕ) → prints_alone (program_answer s) ≡ false → (layout_checks s ≡ result []) × (128 + 63 * held_in s ≤ 16256)
+pub follows_good : (s : List ℕ) → prints_alone (program_answer s) ≡ false → (layout_checks s ≡ the_result []) × (128 + 63 * held_in s ≤ 16256)
 unfolding most_n
 follows_good s e =
     let short = ltb-false most_input (length s) (program_follow s e) in
@@ -181,50 +181,50 @@ unfolding printed
 alone_printed s a is e = rw (is, e) refl
 
 -- and what is left: text and work are what was lent, w what the working space holds, o the answer of the code
-module _ (s text work w : List ℕ) (m : ℕ) (same : m ≡ length work) (cleared : w ≡ replicate m 0) (o : Outcome) (answers : after (told_outcome o) (result (length_in s ∷ [])) ≡ program_answer s) where
-  leaves_text : (t new : List ℕ) {most e : ℕ} → t ≡ printed s → Puts t most 0 text e new → leaving (result (e ∷ [])) new w ≡ list_leaves s text work
+module _ (s text work w : List ℕ) (m : ℕ) (same : m ≡ length work) (cleared : w ≡ replicate m 0) (o : Outcome) (answers : after (told_outcome o) (the_result (length_in s ∷ [])) ≡ program_answer s) where
+  leaves_text : (t new : List ℕ) {most e : ℕ} → t ≡ printed s → Puts t most 0 text e new → leaving (the_result (e ∷ [])) new w ≡ list_leaves s text work
   leaves_text t new is puts =
       let it = puts_written puts in
       cc (it.0, it.1, is, cleared, same)
 
   -- the file can be read
   module _ (is : o ≡ Done) where
-    whole : program_answer s ≡ result (length_in s ∷ [])
-    whole = sym answers ∙ ap (λ (p : Outcome). after (told_outcome p) (result (length_in s ∷ []))) is
+    whole : program_answer s ≡ the_result (length_in s ∷ [])
+    whole = sym answers ∙ ap (λ (p : Outcome). after (told_outcome p) (the_result (length_in s ∷ []))) is
 
-    pub whole_good : (layout_checks s ≡ result []) × (128 + 63 * held_in s ≤ 16256)
+    pub whole_good : (layout_checks s ≡ the_result []) × (128 + 63 * held_in s ≤ 16256)
     unfolding prints_alone
     whole_good = follows_good s (ap prints_alone whole)
 
-    pub whole_leaves : (new : List ℕ) {most e : ℕ} → Puts (listing s ++ last_line (result [])) most 0 text e new → leaving (result (e ∷ [])) new w ≡ list_leaves s text work
+    pub whole_leaves : (new : List ℕ) {most e : ℕ} → Puts (listing s ++ last_line (the_result [])) most 0 text e new → leaving (the_result (e ∷ [])) new w ≡ list_leaves s text work
     unfolding prints_alone last_line
-    whole_leaves new puts = leaves_text (listing s ++ last_line (result [])) new (follows_printed s (result (length_in s ∷ [])) whole refl) puts
+    whole_leaves new puts = leaves_text (listing s ++ last_line (the_result [])) new (follows_printed s (the_result (length_in s ∷ [])) whole refl) puts
 
   -- or is refused; only is whether that line stands alone
   module _ (x : Refusal) (number : ℕ) (only : Bool) (is : o ≡ Refused x) (numbered : number ≡ number_of x) (tested : only ≡ alone number) where
     partly : program_answer s ≡ refused x
-    partly = sym answers ∙ ap (λ (p : Outcome). after (told_outcome p) (result (length_in s ∷ []))) is
+    partly = sym answers ∙ ap (λ (p : Outcome). after (told_outcome p) (the_result (length_in s ∷ []))) is
 
     lone : prints_alone (refused x) ≡ only
     unfolding prints_alone
     lone = sym (tested ∙ ap alone numbered)
 
-    pub partly_good : only ≡ false → (layout_checks s ≡ result []) × (128 + 63 * held_in s ≤ 16256)
+    pub partly_good : only ≡ false → (layout_checks s ≡ the_result []) × (128 + 63 * held_in s ≤ 16256)
     partly_good follows = follows_good s (ap prints_alone partly ∙ lone ∙ follows)
 
-    pub partly_leaves : (new : List ℕ) {most e : ℕ} → only ≡ false → Puts (listing s ++ last_line (refused x)) most 0 text e new → leaving (result (e ∷ [])) new w ≡ list_leaves s text work
+    pub partly_leaves : (new : List ℕ) {most e : ℕ} → only ≡ false → Puts (listing s ++ last_line (refused x)) most 0 text e new → leaving (the_result (e ∷ [])) new w ≡ list_leaves s text work
     partly_leaves new follows puts = leaves_text (listing s ++ last_line (refused x)) new (follows_printed s (refused x) partly (lone ∙ follows)) puts
 
-    pub alone_leaves : (new : List ℕ) {most e : ℕ} → only ≡ true → Puts (last_line (refused x)) most 0 text e new → leaving (result (e ∷ [])) new w ≡ list_leaves s text work
+    pub alone_leaves : (new : List ℕ) {most e : ℕ} → only ≡ true → Puts (last_line (refused x)) most 0 text e new → leaving (the_result (e ∷ [])) new w ≡ list_leaves s text work
     alone_leaves new stands puts = leaves_text (last_line (refused x)) new (alone_printed s (refused x) partly (lone ∙ stands)) puts
 
 -- the text lies inside what it is put into
 
 abbrev pub shown : Answer → ℕ
-shown (result vs) = get_or vs 0 0
+shown (the_result vs) = get_or vs 0 0
 shown (refusal number place) = 0
 
-pub text_inside : (s text t w v : List ℕ) (e : ℕ) → leaving (result (e ∷ [])) t w ≡ leaving (result (length (printed s) ∷ [])) (written (printed s) text) v → e ≤ length t
+pub text_inside : (s text t w v : List ℕ) (e : ℕ) → leaving (the_result (e ∷ [])) t w ≡ leaving (the_result (length (printed s) ∷ [])) (written (printed s) text) v → e ≤ length t
 text_inside s text t w v e leaves =
     let lists = ap {A = Leaves} {B = List ℕ} (λ l. l.list) leaves in
     let answers = ap {A = Leaves} {B = ℕ} (λ l. shown l.answer) leaves in

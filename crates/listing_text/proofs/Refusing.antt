@@ -9,7 +9,7 @@ use Prim.Native.Nat.{ℕ, zero, suc, ◌<◌}
 use borrow.Author.Tests.{lt-ltb, ltb-true, eqb-true}
 use lib.Dec.{ltb, eqb}
 use lib.ListN.{length}
-use Rattle.answers.specs.Refusals.{Answer, result, refusal, number_of, refused, refuse_if, after}
+use Rattle.answers.specs.Refusals.{Answer, the_result, refusal, number_of, refused, refuse_if, after}
 use Rattle.answers.specs.declared.refusal.Refusal.{Refusal}
 use Rattle.answers.specs.declared.refusal.Refusal.TheVariants.{Shape, Room, Few, Word, Tail, Form}
 use Rattle.bundle_layout.specs.Fields.{k_in, n_in, length_in, held_in, blocks_in}
@@ -54,7 +54,7 @@ one_of_either number (x ∷ xs) ns e =
 -- An answer whose result is vs, or whose refusal is among ns
 
 abbrev Gives : List ℕ → List ℕ → Answer → Type 0
-Gives vs ns (result ws) = ws ≡ vs
+Gives vs ns (the_result ws) = ws ≡ vs
 Gives vs ns (refusal number place) = among number ns ≡ true
 
 module _ (vs ns : List ℕ) where
@@ -63,7 +63,7 @@ module _ (vs ns : List ℕ) where
   gives_if false x later is rest = rest
 
   gives_after : (us : List ℕ) (a later : Answer) → Gives us ns a → Gives vs ns later → Gives vs ns (after a later)
-  gives_after us (result ws) later told rest = rest
+  gives_after us (the_result ws) later told rest = rest
   gives_after us (refusal number place) later told rest = told
 
 module _ (ns : List ℕ) where
@@ -71,14 +71,14 @@ module _ (ns : List ℕ) where
   unfolding layout_checks
   layout_gives s shape form =
       gives_if [] ns (bad_front s) Form _ form
-      (gives_if [] ns (bad_bundle_shape (k_in s) (n_in s) (length_in s)) Shape _ shape (gives_if [] ns (not (rest_good s)) Form (result []) form refl))
+      (gives_if [] ns (bad_bundle_shape (k_in s) (n_in s) (length_in s)) Shape _ shape (gives_if [] ns (not (rest_good s)) Form (the_result []) form refl))
 
   module _ (disagree : among 8 ns ≡ true) (word : among 9 ns ≡ true) (tail : among 10 ns ≡ true) where
     judged_gives : (k L b : ℕ) (message : Option (List ℕ)) → Gives [] ns (judged k L b message)
     unfolding judged
     judged_gives k L b none = disagree
     judged_gives k L b (some message) =
-        gives_if [] ns (bad_word message) (Word b) _ word (gives_if [] ns (bad_tail k L b message) (Tail b) (result []) tail refl)
+        gives_if [] ns (bad_word message) (Word b) _ word (gives_if [] ns (bad_tail k L b message) (Tail b) (the_result []) tail refl)
 
     blocks_give : (s : List ℕ) (b left : ℕ) → Gives (length_in s ∷ []) ns (blocks_answer s b left)
     unfolding blocks_answer block_answer
@@ -113,7 +113,7 @@ shown s a only is e = rw (is, e) refl
 
 pub listed_whole : ListedWhole
 unfolding prints_alone last_line
-listed_whole s vs is = (told s (result vs) is, shown s (result vs) false is refl)
+listed_whole s vs is = (told s (the_result vs) is, shown s (the_result vs) false is refl)
 
 lone_alone : (number : ℕ) → OneOf number lone → alone number ≡ true
 unfolding alone
@@ -147,8 +147,8 @@ never_room : (vs ns : List ℕ) (a : Answer) → among 3 ns ≡ false → Gives 
 never_room vs ns a out gives is = true≢false (sym (subst (Gives vs ns) is gives) ∙ out)
 
 after_room : (ns : List ℕ) (a later : Answer) → among 3 ns ≡ false → Gives [] ns a → after a later ≡ refused Room
-    → (a ≡ result []) × (later ≡ refused Room)
-after_room ns (result vs) later out gives e = (ap result gives, e)
+    → (a ≡ the_result []) × (later ≡ refused Room)
+after_room ns (the_result vs) later out gives e = (ap the_result gives, e)
 after_room ns (refusal number place) later out gives e = absurd (never_room [] ns (refusal number place) out gives e)
 
 served_room : (s : List ℕ) → served_answer s ≡ refused Room → (most_n < n_in s) ⊎ (most_length < length_in s)
@@ -167,7 +167,7 @@ served_room s e =
     ]
 
 room_needed : (s : List ℕ) → program_answer s ≡ refused Room
-    → (most_input < length s) ⊎ ((layout_checks s ≡ result []) × ((most_n < n_in s) ⊎ (most_length < length_in s)))
+    → (most_input < length s) ⊎ ((layout_checks s ≡ the_result []) × ((most_n < n_in s) ⊎ (most_length < length_in s)))
 unfolding program_answer
 room_needed s e =
     elim (room_or_later (ltb most_input (length s)) _ e) [
@@ -194,7 +194,7 @@ unfolding served_answer
 large s (inl n) = large_room (ltb most_n (n_in s)) (ltb most_length (length_in s)) _ (inl (lt-ltb most_n (n_in s) n))
 large s (inr l) = large_room (ltb most_n (n_in s)) (ltb most_length (length_in s)) _ (inr (lt-ltb most_length (length_in s) l))
 
-room_told : (s : List ℕ) → (most_input < length s) ⊎ ((layout_checks s ≡ result []) × ((most_n < n_in s) ⊎ (most_length < length_in s)))
+room_told : (s : List ℕ) → (most_input < length s) ⊎ ((layout_checks s ≡ the_result []) × ((most_n < n_in s) ⊎ (most_length < length_in s)))
     → program_answer s ≡ refused Room
 unfolding program_answer
 room_told s (inl long) = ap (λ (bad : Bool). refuse_if bad Room (after (layout_checks s) (served_answer s))) (lt-ltb most_input (length s) long)

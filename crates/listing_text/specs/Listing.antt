@@ -1,6 +1,6 @@
 -- What the listing program prints (document 01, "Worked numbers").
 use Rattle.std.specs.Prelude.{Bool, false, ◌||◌, cond, List, [], ◌++◌, ℕ, zero, suc, eqb}
-use Rattle.answers.specs.Refusals.{Answer, result, refusal}
+use Rattle.answers.specs.Refusals.{Answer, the_result, refusal}
 use Rattle.bundle_layout.specs.Fields.{k_in, n_in, length_in, held_in, blocks_in, position_in, count_in, offset_in}
 use Rattle.listing_lines.specs.Lines.{header_line, entry_line, last_line}
 use Rattle.listing_text.specs.Answers.{program_answer}
@@ -19,7 +19,7 @@ unfoldable pub alone : ℕ → Bool
 alone number = eqb number 1 || (eqb number 3 || eqb number 11)
 
 unfoldable pub prints_alone : Answer → Bool
-prints_alone (result vs) = false
+prints_alone (the_result vs) = false
 prints_alone (refusal number place) = alone number
 
 unfoldable pub printed : List ℕ → List ℕ

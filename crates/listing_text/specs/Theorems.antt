@@ -1,7 +1,7 @@
 -- What is proved of the program's answer and of what it prints, as statements: proofs/Theorems.antt proves each under the same name in small letters.
 use Rattle.std.specs.Prelude.{◌≡◌, List, [], ◌∷◌, ◌++◌, ◌⊎◌, ◌↔◌, ℕ, ◌*◌, ◌<◌, ◌≤◌, length}
 use Rattle.answers.specs.Leaves.{leaving}
-use Rattle.answers.specs.Refusals.{result, refusal, refused}
+use Rattle.answers.specs.Refusals.{the_result, refusal, refused}
 use Rattle.answers.specs.declared.refusal.Refusal.TheVariants.{Room}
 use Rattle.bundle_layout.specs.Fields.{n_in, length_in}
 use Rattle.bundle_layout.specs.Layout.{layout_checks}
@@ -26,12 +26,12 @@ abbrev pub ServesExactly : Type 0
 ServesExactly =
     (s : List ℕ)
     → (program_answer s ≡ refused Room)
-    ↔ ((most_input < length s) ⊎ ((layout_checks s ≡ result []) × ((most_n < n_in s) ⊎ (most_length < length_in s))))
+    ↔ ((most_input < length s) ⊎ ((layout_checks s ≡ the_result []) × ((most_n < n_in s) ⊎ (most_length < length_in s))))
 
 -- "The last line is OK after a full read", which is one of all L bytes
 abbrev pub ListedWhole : Type 0
 ListedWhole =
-    (s vs : List ℕ) → program_answer s ≡ result vs → (vs ≡ length_in s ∷ []) × (printed s ≡ listing s ++ ascii "OK\n")
+    (s vs : List ℕ) → program_answer s ≡ the_result vs → (vs ≡ length_in s ∷ []) × (printed s ≡ listing s ++ ascii "OK\n")
 
 -- number is one of these
 abbrev pub OneOf : ℕ → List ℕ → Type 0
@@ -57,5 +57,5 @@ EmptyListed = printed [] ≡ ascii "REFUSED 11 0\n"
 -- two outcomes of the work are equal: where the text ends, every byte of the memory lent for it, every cell of the working space
 abbrev pub ListSettled : Type 0
 ListSettled =
-    (s text work : List ℕ) (e f : ℕ) (t u w v : List ℕ) → leaving (result (e ∷ [])) t w ≡ list_leaves s text work
-    → leaving (result (f ∷ [])) u v ≡ list_leaves s text work → (e ≡ f) × (t ≡ u) × (w ≡ v)
+    (s text work : List ℕ) (e f : ℕ) (t u w v : List ℕ) → leaving (the_result (e ∷ [])) t w ≡ list_leaves s text work
+    → leaving (the_result (f ∷ [])) u v ≡ list_leaves s text work → (e ≡ f) × (t ≡ u) × (w ≡ v)

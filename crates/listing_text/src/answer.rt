@@ -1,6 +1,6 @@
 // What the program answers to its input. No entry points and for this crate alone: `list` asks its caller for the working space.
 ghost use Rattle.std.specs.Prelude.{◌≡◌, [], ◌∷◌, ◌*◌, ◌≤◌, length};
-ghost use Rattle.answers.specs.Refusals.{result, told_outcome, after};
+ghost use Rattle.answers.specs.Refusals.{the_result, told_outcome, after};
 ghost use Rattle.bundle_layout.specs.Fields.{k_in, n_in, length_in, held_in, blocks_in};
 ghost use Rattle.bundle_layout.specs.Layout.{layout_checks};
 ghost use Rattle.bundle_layout.specs.Rooms.{bundle_work};
@@ -21,10 +21,10 @@ const MOST_LENGTH: usize = 24576;
 
 // Every block is decoded; of the file no byte is kept, since none is printed.
 fn blocks_answer(bundle: &[u8], cells: &mut [u32]) -> Outcome
-    requires { (layout_checks bundle.now ≡ result []) × (k_in bundle.now ≤ held_in bundle.now)
+    requires { (layout_checks bundle.now ≡ the_result []) × (k_in bundle.now ≤ held_in bundle.now)
         × (length cells.old ≡ bundle_work (n_in bundle.now)) }
-    ensures* { λ r. ⌜ after (told_outcome r) (result (length_in bundle.now ∷ []))
-        ≡ blocks_answer bundle.now 0 (blocks_in bundle.now) ⌝ }
+    ensures { after (told_outcome result) (the_result (length_in bundle.now ∷ []))
+        ≡ blocks_answer bundle.now 0 (blocks_in bundle.now) }
 {
     let mut file = [0u8; 1];
     let missing = start(bundle, cells);
@@ -33,9 +33,9 @@ fn blocks_answer(bundle: &[u8], cells: &mut [u32]) -> Outcome
 
 // ROOM, FEW and the blocks, once the layout is good.
 fn served_answer(bundle: &[u8], work: &mut [u32]) -> Outcome
-    requires { (layout_checks bundle.now ≡ result []) × (length work.old ≡ 8 * most_n) }
-    ensures* { λ r. ⌜ after (told_outcome r) (result (length_in bundle.now ∷ []))
-        ≡ served_answer bundle.now ⌝ }
+    requires { (layout_checks bundle.now ≡ the_result []) × (length work.old ≡ 8 * most_n) }
+    ensures { after (told_outcome result) (the_result (length_in bundle.now ∷ []))
+        ≡ served_answer bundle.now }
 {
     let n = n_in(bundle);
     if MOST_N < n {
@@ -53,8 +53,8 @@ fn served_answer(bundle: &[u8], work: &mut [u32]) -> Outcome
 
 pub fn program_answer(input: &[u8], work: &mut [u32]) -> Outcome
     requires { length work.old ≡ 8 * most_n }
-    ensures* { λ r. ⌜ after (told_outcome r) (result (length_in input.now ∷ []))
-        ≡ program_answer input.now ⌝ }
+    ensures { after (told_outcome result) (the_result (length_in input.now ∷ []))
+        ≡ program_answer input.now }
 {
     if MOST_INPUT < input.len() {
         return Outcome::Refused(Refusal::Room);

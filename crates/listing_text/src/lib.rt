@@ -4,10 +4,10 @@ mod table;
 
 ghost use Rattle.std.specs.Prelude.{◌≡◌, [], ◌∷◌, ◌*◌, ◌≤◌, length};
 ghost use Rattle.answers.specs.Leaves.{leaving};
-ghost use Rattle.answers.specs.Refusals.{result};
+ghost use Rattle.answers.specs.Refusals.{the_result};
 ghost use Rattle.listing_text.specs.Answers.{most_n};
 ghost use Rattle.listing_text.specs.Calls.{text_room, list_leaves};
-ghost use Rattle.listing_text.specs.Listing.{alone as Listing·alone};
+ghost use Rattle.listing_text.specs.Listing.{alone};
 
 use crate::answer::program_answer;
 use crate::table::put_listing;
@@ -16,7 +16,7 @@ use cells::clear;
 use listing_lines::{put_ok, put_refused};
 
 fn alone(number: u32) -> bool
-    ensures* { λ r. ⌜ r ≡ Listing·alone number ⌝ }
+    ensures { result ≡ alone number }
 {
     if number == 1 {
         return true;
@@ -30,8 +30,8 @@ fn alone(number: u32) -> bool
 // What is printed, at the front of text; where it ends is the answer.
 pub fn list(input: &[u8], text: &mut [u8], work: &mut [u32]) -> usize
     requires { (text_room ≤ length text.old) × (length work.old ≡ 8 * most_n) }
-    ensures* { λ r. ⌜ leaving (result (r ∷ [])) text.new work.new
-        ≡ list_leaves input.now text.old work.old ⌝ }
+    ensures { leaving (the_result (result ∷ [])) text.new work.new
+        ≡ list_leaves input.now text.old work.old }
 {
     let answer = program_answer(input, work);
     clear(work);

@@ -10,7 +10,7 @@ use borrow.Author.Tests.{lt-ltb, le-ltb, eqb-false}
 use lib.Dec.{ltb, eqb}
 use lib.ListN.{length}
 use Rattle.answers.specs.Leaves.{Leaves, unless_refused}
-use Rattle.answers.specs.Refusals.{Answer, result, refusal, refused, refuse_if, number_of, after}
+use Rattle.answers.specs.Refusals.{Answer, the_result, refusal, refused, refuse_if, number_of, after}
 use Rattle.limits.specs.Shape.{bad_shape}
 use Rattle.limits.specs.Values.{first_above, refuse_above}
 use Rattle.answers.specs.declared.refusal.Refusal.{Refusal}
@@ -53,36 +53,36 @@ other_if false x other rest = rest
 
 other_after : (a : Answer) {later : Answer} → NoRoom a → NoRoom later → NoRoom (after a later)
 other_after (refusal number place) here rest = here
-other_after (result vs) here rest = rest
+other_after (the_result vs) here rest = rest
 
 -- Checks one after the other
 
-check : (bad : Bool) (x : Refusal) (later : Answer) → refuse_if bad x later ≡ after (refuse_if bad x (result [])) later
+check : (bad : Bool) (x : Refusal) (later : Answer) → refuse_if bad x later ≡ after (refuse_if bad x (the_result [])) later
 check true x later = refl
 check false x later = refl
 
 unless : (a : Answer) (list work : List ℕ) (it : Leaves) → (unless_refused a list work it).answer ≡ after a it.answer
 unless (refusal number place) list work it = refl
-unless (result vs) list work it = refl
+unless (the_result vs) list work it = refl
 
 after_refusal : (a later : Answer) (number place : ℕ) → after (after a (refusal number place)) later ≡ after a (refusal number place)
 after_refusal (refusal m i) later number place = refl
-after_refusal (result vs) later number place = refl
+after_refusal (the_result vs) later number place = refl
 
 -- first is what the checks of the sizes say, vs the room stated
 
-sizes_refused : (first : Answer) (vs : List ℕ) {number place : ℕ} → after first (result vs) ≡ refusal number place → (later : Answer)
+sizes_refused : (first : Answer) (vs : List ℕ) {number place : ℕ} → after first (the_result vs) ≡ refusal number place → (later : Answer)
     → after first later ≡ refusal number place
 sizes_refused (refusal m i) vs e later = e
-sizes_refused (result us) vs e later = absurd (result_no_refusal e)
+sizes_refused (the_result us) vs e later = absurd (result_no_refusal e)
 
-sizes_passed : (first : Answer) (vs : List ℕ) {us : List ℕ} → after first (result vs) ≡ result us → (later : Answer) → after first later ≡ later
+sizes_passed : (first : Answer) (vs : List ℕ) {us : List ℕ} → after first (the_result vs) ≡ the_result us → (later : Answer) → after first later ≡ later
 sizes_passed (refusal m i) vs e later = absurd (result_no_refusal (sym e))
-sizes_passed (result ws) vs e later = refl
+sizes_passed (the_result ws) vs e later = refl
 
-room_same : (first : Answer) (o w : ℕ) {p v : ℕ} → after first (result (o ∷ w ∷ [])) ≡ result (p ∷ v ∷ []) → (o ≡ p) × (w ≡ v)
+room_same : (first : Answer) (o w : ℕ) {p v : ℕ} → after first (the_result (o ∷ w ∷ [])) ≡ the_result (p ∷ v ∷ []) → (o ≡ p) × (w ≡ v)
 room_same (refusal m i) o w e = absurd (result_no_refusal (sym e))
-room_same (result ws) o w e = (cc, cc)
+room_same (the_result ws) o w e = (cc, cc)
 
 -- The comparison with the room
 
@@ -100,7 +100,7 @@ ample a o b w enough room = rw (le-ltb a o enough, le-ltb b w room)
 -- The law: first are the checks of the sizes, then come those of lengths, then ROOM, the others, and what the work answers
 
 module _ (first lengths others : Answer) (o w : ℕ) (told short : Answer) (checks : ℕ → ℕ → Answer) (later : List ℕ → List ℕ → Answer)
-    (call : List ℕ → List ℕ → Leaves) (is_told : told ≡ after first (result (o ∷ w ∷ []))) (is_short : short ≡ after lengths (refused Room))
+    (call : List ℕ → List ℕ → Leaves) (is_told : told ≡ after first (the_result (o ∷ w ∷ []))) (is_short : short ≡ after lengths (refused Room))
     (is_checks : (out work : ℕ) → checks out work ≡ after first (after lengths (refuse_if (ltb out o || ltb work w) Room others)))
     (is_call : (out work : List ℕ) → (call out work).answer ≡ after (checks (length out) (length work)) (later out work))
     (no_length : NoRoom lengths) (no_other : NoRoom others) (no_later : (out work : List ℕ) → NoRoom (later out work)) where
@@ -113,7 +113,7 @@ module _ (first lengths others : Answer) (o w : ℕ) (told short : Answer) (chec
       (is_checks (length out) (length work) ∙ ap (λ (b : Bool). after first (after lengths (refuse_if b Room others))) e)
 
   -- and where the sizes passed
-  passed : (out work : List ℕ) (b : Bool) {us : List ℕ} → told ≡ result us → ltb (length out) o || ltb (length work) w ≡ b
+  passed : (out work : List ℕ) (b : Bool) {us : List ℕ} → told ≡ the_result us → ltb (length out) o || ltb (length work) w ≡ b
       → (call out work).answer ≡ after (after lengths (refuse_if b Room others)) (later out work)
   passed out work b e compared =
       answered out work b compared
@@ -142,8 +142,8 @@ module _ (back : Bool) (list : List ℕ) where
   pub transform_asks : AsksFor (transform_room_answer (length list)) (refused Room) (λ out. call_leaves back list)
   unfolding transform_room_answer transform_checks
   transform_asks =
-      asks_for (refuse_if (bad_length (length list)) Shape (result [])) (result []) (refuse_above list (result [])) 0 (length list) _ _
-      (λ out work. transform_checks list work) (λ out work. result []) _ (check (bad_length (length list)) Shape _) refl
+      asks_for (refuse_if (bad_length (length list)) Shape (the_result [])) (the_result []) (refuse_above list (the_result [])) 0 (length list) _ _
+      (λ out work. transform_checks list work) (λ out work. the_result []) _ (check (bad_length (length list)) Shape _) refl
       (λ out work. rw (le-ltb out 0 zero-le) (check (bad_length (length list)) Shape _))
       (λ out work. unless (transform_checks list (length work)) list work _)
       result_no_refusal
@@ -155,11 +155,11 @@ module _ (back : Bool) (list : List ℕ) where
 -- SHAPE and LENGTH
 two_checks : (bad unequal : Bool) (later : Answer)
     → refuse_if bad Shape (refuse_if unequal Length later)
-    ≡ after (refuse_if bad Shape (result [])) (after (refuse_if unequal Length (result [])) later)
+    ≡ after (refuse_if bad Shape (the_result [])) (after (refuse_if unequal Length (the_result [])) later)
 two_checks bad unequal later =
-    check bad Shape _ ∙ ap (after (refuse_if bad Shape (result []))) (check unequal Length later)
+    check bad Shape _ ∙ ap (after (refuse_if bad Shape (the_result []))) (check unequal Length later)
 
-no_length : (unequal : Bool) → NoRoom (refuse_if unequal Length (result []))
+no_length : (unequal : Bool) → NoRoom (refuse_if unequal Length (the_result []))
 no_length unequal = other_if unequal Length refl result_no_refusal
 
 pub encode_asks : (k n : ℕ) (message : List ℕ)
@@ -168,8 +168,8 @@ unfolding encode_room_answer encode_checks
 encode_asks k n message =
     let bad = bad_shape k n in
     let unequal = not (eqb (length message) k) in
-    asks_for (refuse_if bad Shape (result [])) (refuse_if unequal Length (result [])) (refuse_above message (result [])) n (encode_work n) _ _
-    (encode_checks k n message) (λ out work. result []) _ (check bad Shape _) (check unequal Length _) (λ out work. two_checks bad unequal _)
+    asks_for (refuse_if bad Shape (the_result [])) (refuse_if unequal Length (the_result [])) (refuse_above message (the_result [])) n (encode_work n) _ _
+    (encode_checks k n message) (λ out work. the_result []) _ (check bad Shape _) (check unequal Length _) (λ out work. two_checks bad unequal _)
     (λ out work. unless (encode_checks k n message (length out) (length work)) out work _) (no_length unequal)
     (other_if (ltb (first_above message) (length message)) (Value (first_above message)) refl result_no_refusal)
     (λ out work. result_no_refusal)
@@ -186,7 +186,7 @@ decode_asks k n positions values =
     let bad = bad_shape k n in
     let unequal = not (eqb (length positions) (length values)) in
     let found = decode_of k n (held positions values) in
-    asks_for (refuse_if bad Shape (result [])) (refuse_if unequal Length (result [])) _ k (decode_work n) _ _
+    asks_for (refuse_if bad Shape (the_result [])) (refuse_if unequal Length (the_result [])) _ k (decode_work n) _ _
     (decode_checks k n positions values) (λ out work. (decoded found n out work).answer) _ (check bad Shape _) (check unequal Length _)
     (λ out work. two_checks bad unequal _)
     (λ out work. unless (decode_checks k n positions values (length out) (length work)) out work _) (no_length unequal)
@@ -202,7 +202,7 @@ pub write_asks : (k n : ℕ) (file : List ℕ) → AsksFor (write_room_answer k 
 unfolding write_room_answer write_checks
 write_asks k n file =
     let bad = bad_bundle_shape k n (length file) in
-    asks_for (refuse_if bad Shape (result [])) (result []) (result []) (write_out n (blocks_of k (length file))) (bundle_work n) _ _
+    asks_for (refuse_if bad Shape (the_result [])) (the_result []) (the_result []) (write_out n (blocks_of k (length file))) (bundle_work n) _ _
     (write_checks k n (length file)) _ _ (check bad Shape _) refl (λ out work. check bad Shape _)
     (λ out work. unless (write_checks k n (length file) (length out) (length work)) out work _) result_no_refusal result_no_refusal
     (λ out work. result_no_refusal)
@@ -223,7 +223,7 @@ pub read_asks : (bundle : List ℕ) → AsksFor (read_room_answer bundle) (refus
 unfolding read_room_answer read_checks room_checks
 read_asks bundle =
     let answer = blocks_answer bundle 0 (blocks_in bundle) in
-    asks_for (layout_checks bundle) (result []) _ (length_in bundle) (bundle_work (n_in bundle)) _ _ (read_checks bundle) (λ out work. answer) _ refl refl
+    asks_for (layout_checks bundle) (the_result []) _ (length_in bundle) (bundle_work (n_in bundle)) _ _ (read_checks bundle) (λ out work. answer) _ refl refl
     (λ out work. refl)
     (λ out work. read_answer bundle out work)
     result_no_refusal (other_if (ltb (held_in bundle) (k_in bundle)) Few refl result_no_refusal)

@@ -1,7 +1,7 @@
 -- What is proved of the definitions, as statements: proofs/Theorems.antt proves each under the same name in small letters.
 use Rattle.std.specs.Prelude.{◌≡◌, not, List, [], ◌∷◌, ◌⊎◌, ℕ, ◌<◌, ◌≤◌, eqb, length}
 use Rattle.answers.specs.Leaves.{Leaves}
-use Rattle.answers.specs.Refusals.{Answer, result, refusal, refused, refuse_if}
+use Rattle.answers.specs.Refusals.{Answer, the_result, refusal, refused, refuse_if}
 use Rattle.answers.specs.declared.refusal.Refusal.TheVariants.{Length, Room}
 use Rattle.transform.specs.Calls.{transform_leaves, inverse_leaves}
 use Rattle.block.specs.Calls.{encode_leaves, decode_leaves}
@@ -14,10 +14,10 @@ use Rattle.room_calls.specs.declared.answer.RoomAnswer.{RoomAnswer}
 -- call is what a call leaves of the output and the working space that it is lent, short what it answers where one of them is shorter than told
 pub record AsksFor (told short : Answer) (call : List ℕ → List ℕ → Leaves) : Type 0 where
   -- with the room told, or more, it is not refused by ROOM
-  pub room_enough : (o w : ℕ) → told ≡ result (o ∷ w ∷ []) → (out work : List ℕ) → o ≤ length out → w ≤ length work
+  pub room_enough : (o w : ℕ) → told ≡ the_result (o ∷ w ∷ []) → (out work : List ℕ) → o ≤ length out → w ≤ length work
       → ¬ ((call out work).answer ≡ refused Room)
   -- with less of either it is refused
-  pub room_needed : (o w : ℕ) → told ≡ result (o ∷ w ∷ []) → (out work : List ℕ) → (length out < o) ⊎ (length work < w)
+  pub room_needed : (o w : ℕ) → told ≡ the_result (o ∷ w ∷ []) → (out work : List ℕ) → (length out < o) ⊎ (length work < w)
       → (call out work).answer ≡ short
   -- where no room is told, the call gives the same refusal, whatever it is lent
   pub room_refused : (number place : ℕ) → told ≡ refusal number place → (out work : List ℕ)

@@ -5,7 +5,7 @@ use mathlib.Core.Bool.{Bool, true, false}
 use mathlib.Core.List.{List, [], ◌∷◌}
 use Prim.Native.Nat.{ℕ}
 use Rattle.answers.specs.Leaves.{Leaves, leaving}
-use Rattle.answers.specs.Refusals.{Answer, result, refused, refuse_if, told_outcome}
+use Rattle.answers.specs.Refusals.{Answer, the_result, refused, refuse_if, told_outcome}
 use Rattle.answers.specs.declared.refusal.Outcome.{Outcome}
 use Rattle.answers.specs.declared.refusal.Refusal.{Refusal}
 use Rattle.answers.specs.declared.refusal.Refusal.TheVariants.{Shape}
@@ -24,7 +24,7 @@ use Rattle.room_calls.specs.declared.answer.RoomAnswer.TheVariants as R
 use Rattle.answers.specs.Telling.{Returned, status_number, returned}
 use Rattle.sulmirejo.specs.Face.{returned_number, with_point, point_returned, with_lists, lists_returned, lists_returned_number, with_facts, facts_returned, with_entry, entry_returned, RoomReturned, with_room, room_returned}
 
-pub point_found : (a : Answer) (before v s p : ℕ) → result (v ∷ []) ≡ a → status_number s p ≡ returned (result [])
+pub point_found : (a : Answer) (before v s p : ℕ) → the_result (v ∷ []) ≡ a → status_number s p ≡ returned (the_result [])
     → with_point (status_number s p) v ≡ point_returned a before
 point_found a before v s p is told =
     ap (λ (r : Returned). with_point r v) told ∙ ap (λ (a : Answer). point_returned a before) is
@@ -44,7 +44,7 @@ lists_told_number it a l w s p is told = ap (λ (r : Returned). with_lists r l w
 
 -- k, n, L, m and B are what the numbers held before
 module _ (a : Answer) (k n L m B s p : ℕ) where
-  pub facts_found : (f : Facts) → told_facts (F.Facts f) ≡ a → status_number s p ≡ returned (result [])
+  pub facts_found : (f : Facts) → told_facts (F.Facts f) ≡ a → status_number s p ≡ returned (the_result [])
       → with_facts (status_number s p) f.k f.n f.length f.held f.blocks ≡ facts_returned a k n L m B
   facts_found f is told =
       ap (λ (r : Returned). with_facts r f.k f.n f.length f.held f.blocks) told
@@ -57,7 +57,7 @@ module _ (a : Answer) (k n L m B s p : ℕ) where
 
 -- t, o and c are what the numbers held before
 module _ (a : Answer) (t o c s p : ℕ) where
-  pub entry_found : (e : Entry) → told_entry (E.Entry e) ≡ a → status_number s p ≡ returned (result [])
+  pub entry_found : (e : Entry) → told_entry (E.Entry e) ≡ a → status_number s p ≡ returned (the_result [])
       → with_entry (status_number s p) e.position e.offset e.count ≡ entry_returned a t o c
   entry_found e is told =
       ap (λ (r : Returned). with_entry r e.position e.offset e.count) told ∙ ap (λ (a : Answer). entry_returned a t o c) is
@@ -68,7 +68,7 @@ module _ (a : Answer) (t o c s p : ℕ) where
 
 -- o and w are what the numbers held before
 module _ (a : RoomAnswer) (o w s p : ℕ) where
-  pub room_found : (r : Space) → a ≡ R.Space r → status_number s p ≡ returned (result [])
+  pub room_found : (r : Space) → a ≡ R.Space r → status_number s p ≡ returned (the_result [])
       → with_room (status_number s p) r.out r.work ≡ room_returned (told_room a) o w
   room_found r is told =
       ap (λ (x : Returned). with_room x r.out r.work) told ∙ ap (λ (a : RoomAnswer). room_returned (told_room a) o w) (sym is)
@@ -84,7 +84,7 @@ pub room_told : (a : Answer) (r : RoomAnswer) (o w : ℕ) {it : RoomReturned} �
 room_told a r o w is told = told ∙ ap (λ (a : Answer). room_returned a o w) is
 
 -- the transform's room has no output: 0 stays 0
-no_output : (bad : Bool) (N w : ℕ) → (room_returned (refuse_if bad Shape (result (0 ∷ N ∷ []))) 0 w).out ≡ 0
+no_output : (bad : Bool) (N w : ℕ) → (room_returned (refuse_if bad Shape (the_result (0 ∷ N ∷ []))) 0 w).out ≡ 0
 no_output true N w = refl
 no_output false N w = refl
 

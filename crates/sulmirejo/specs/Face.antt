@@ -1,12 +1,12 @@
 -- What a C caller finds: the returned status is 0 or the refusal's number, and `number` holds the refusal's place, else 0 or the length told.
 use Rattle.std.specs.Prelude.{List, ℕ, get_or}
 use Rattle.answers.specs.Leaves.{Leaves}
-use Rattle.answers.specs.Refusals.{Answer, result, refusal}
+use Rattle.answers.specs.Refusals.{Answer, the_result, refusal}
 use Rattle.answers.specs.Telling.{Returned, status_number, returned}
 
 -- where the result is one number, `number` takes it
 abbrev pub returned_number : Answer → Returned
-returned_number (result vs) = status_number 0 (get_or vs 0 0)
+returned_number (the_result vs) = status_number 0 (get_or vs 0 0)
 returned_number (refusal n i) = status_number n i
 
 -- a point: it is written on success alone
@@ -20,7 +20,7 @@ with_point r point = record { status = r.status; number = r.number; point = poin
 
 -- the answer told, and what stands in `point` where it held `before`
 abbrev pub point_returned : Answer → ℕ → PointReturned
-point_returned (result vs) before = with_point (returned (result vs)) (get_or vs 0 0)
+point_returned (the_result vs) before = with_point (returned (the_result vs)) (get_or vs 0 0)
 point_returned (refusal n i) before = with_point (returned (refusal n i)) before
 
 -- a call with a list that takes the result and a working space: what it leaves, with the answer told
@@ -56,8 +56,8 @@ with_facts r k n length held blocks =
 
 -- the answer told, and what stands in the five where they held k, n, length, held and blocks
 abbrev pub facts_returned : Answer → ℕ → ℕ → ℕ → ℕ → ℕ → FactsReturned
-facts_returned (result vs) k n length held blocks =
-    with_facts (returned (result vs)) (get_or vs 0 0) (get_or vs 1 0) (get_or vs 2 0) (get_or vs 3 0) (get_or vs 4 0)
+facts_returned (the_result vs) k n length held blocks =
+    with_facts (returned (the_result vs)) (get_or vs 0 0) (get_or vs 1 0) (get_or vs 2 0) (get_or vs 3 0) (get_or vs 4 0)
 facts_returned (refusal m i) k n length held blocks = with_facts (returned (refusal m i)) k n length held blocks
 
 -- what a bundle's table says of one shadow: it is written on success alone
@@ -74,7 +74,7 @@ with_entry r position offset count =
 
 -- the answer told, and what stands in the three where they held position, offset and count
 abbrev pub entry_returned : Answer → ℕ → ℕ → ℕ → EntryReturned
-entry_returned (result vs) position offset count = with_entry (returned (result vs)) (get_or vs 0 0) (get_or vs 1 0) (get_or vs 2 0)
+entry_returned (the_result vs) position offset count = with_entry (returned (the_result vs)) (get_or vs 0 0) (get_or vs 1 0) (get_or vs 2 0)
 entry_returned (refusal m i) position offset count = with_entry (returned (refusal m i)) position offset count
 
 -- the room that a call asks for: it is written on success alone
@@ -89,5 +89,5 @@ with_room r out work = record { status = r.status; number = r.number; out = out;
 
 -- the answer told, and what stands in the two where they held out and work
 abbrev pub room_returned : Answer → ℕ → ℕ → RoomReturned
-room_returned (result vs) out work = with_room (returned (result vs)) (get_or vs 0 0) (get_or vs 1 0)
+room_returned (the_result vs) out work = with_room (returned (the_result vs)) (get_or vs 0 0) (get_or vs 1 0)
 room_returned (refusal m i) out work = with_room (returned (refusal m i)) out work

@@ -4,7 +4,7 @@ ghost use Rattle.bundle_layout.specs.Facts.{facts_answer, entry_answer};
 ghost use Rattle.bundle.specs.Answers.{told_length};
 ghost use Rattle.bundle.specs.Calls.{write_leaves, read_leaves};
 ghost use Rattle.answers.specs.Telling.{status_number};
-ghost use Rattle.sulmirejo.specs.Face.{returned_number, with-lists, lists_returned_number, with-facts, facts_returned, with-entry, entry_returned};
+ghost use Rattle.sulmirejo.specs.Face.{returned_number, with_lists, lists_returned_number, with_facts, facts_returned, with_entry, entry_returned};
 
 use answers::{Outcome, tell};
 use bundle::LengthAnswer;
@@ -32,7 +32,7 @@ pub extern "C" fn sulmirejo_write(
     work: &mut [u32],
     number: &mut usize,
 ) -> u32
-    ensures { with-lists (status_number result number.new) out.new work.new
+    ensures { with_lists (status_number result number.new) out.new work.new
         ≡ lists_returned_number (write_leaves k n file.now out.old work.old) }
 {
     let answer = bundle::write(k, n, file, out, work);
@@ -46,7 +46,7 @@ pub extern "C" fn sulmirejo_read(
     work: &mut [u32],
     number: &mut usize,
 ) -> u32
-    ensures { with-lists (status_number result number.new) out.new work.new
+    ensures { with_lists (status_number result number.new) out.new work.new
         ≡ lists_returned_number (read_leaves bundle.now out.old work.old) }
 {
     let answer = bundle::read(bundle, out, work);
@@ -64,7 +64,7 @@ pub extern "C" fn sulmirejo_facts(
     blocks: &mut usize,
     number: &mut usize,
 ) -> u32
-    ensures { with-facts (status_number result number.new)
+    ensures { with_facts (status_number result number.new)
         k.new n.new length.new held.new blocks.new
         ≡ facts_returned (facts_answer bundle.now)
         k.old n.old length.old held.old blocks.old }
@@ -92,7 +92,7 @@ pub extern "C" fn sulmirejo_entry(
     count: &mut usize,
     number: &mut usize,
 ) -> u32
-    ensures { with-entry (status_number result number.new) position.new offset.new count.new
+    ensures { with_entry (status_number result number.new) position.new offset.new count.new
         ≡ entry_returned (entry_answer bundle.now index) position.old offset.old count.old }
 {
     match bundle_layout::entry_of(bundle, index) {

@@ -8,7 +8,7 @@ ghost use Rattle.field_calls.specs.Points.{point_answer};
 ghost use Rattle.transform.specs.Calls.{transform_leaves, inverse_leaves};
 ghost use Rattle.block.specs.Calls.{encode_leaves, decode_leaves};
 ghost use Rattle.answers.specs.Telling.{status_number};
-ghost use Rattle.sulmirejo.specs.Face.{with-point, point_returned, with-lists, lists_returned};
+ghost use Rattle.sulmirejo.specs.Face.{with_point, point_returned, with_lists, lists_returned};
 
 use answers::{Outcome, tell};
 use field::Position;
@@ -21,7 +21,7 @@ pub extern "C" fn sulmirejo_point(
     point: &mut u32,
     number: &mut usize,
 ) -> u32
-    ensures { with-point (status_number result number.new) point.new
+    ensures { with_point (status_number result number.new) point.new
         ≡ point_returned (point_answer n position) point.old }
 {
     match field_calls::point_at(n, Position(position)) {
@@ -36,7 +36,7 @@ pub extern "C" fn sulmirejo_point(
 
 #[unsafe(no_mangle)]
 pub extern "C" fn sulmirejo_transform(list: &mut [u32], work: &mut [u32], number: &mut usize) -> u32
-    ensures { with-lists (status_number result number.new) list.new work.new
+    ensures { with_lists (status_number result number.new) list.new work.new
         ≡ lists_returned (transform_leaves list.old work.old) }
 {
     let outcome = transform::transform(list, work);
@@ -45,7 +45,7 @@ pub extern "C" fn sulmirejo_transform(list: &mut [u32], work: &mut [u32], number
 
 #[unsafe(no_mangle)]
 pub extern "C" fn sulmirejo_inverse(list: &mut [u32], work: &mut [u32], number: &mut usize) -> u32
-    ensures { with-lists (status_number result number.new) list.new work.new
+    ensures { with_lists (status_number result number.new) list.new work.new
         ≡ lists_returned (inverse_leaves list.old work.old) }
 {
     let outcome = transform::inverse(list, work);
@@ -61,7 +61,7 @@ pub extern "C" fn sulmirejo_encode(
     work: &mut [u32],
     number: &mut usize,
 ) -> u32
-    ensures { with-lists (status_number result number.new) out.new work.new
+    ensures { with_lists (status_number result number.new) out.new work.new
         ≡ lists_returned (encode_leaves k n message.now out.old work.old) }
 {
     let outcome = block::encode(k, n, message, out, work);
@@ -78,7 +78,7 @@ pub extern "C" fn sulmirejo_decode(
     work: &mut [u32],
     number: &mut usize,
 ) -> u32
-    ensures { with-lists (status_number result number.new) out.new work.new
+    ensures { with_lists (status_number result number.new) out.new work.new
         ≡ lists_returned (decode_leaves k n positions.now values.now out.old work.old) }
 {
     let outcome = block::decode(k, n, positions, values, out, work);

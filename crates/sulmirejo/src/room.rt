@@ -2,14 +2,14 @@
 ghost use Rattle.std.specs.Prelude.{◌≡◌};
 ghost use Rattle.room_calls.specs.Rooms.{told_room, transform_room_answer, encode_room_answer, decode_room_answer, write_room_answer, read_room_answer};
 ghost use Rattle.answers.specs.Telling.{status_number};
-ghost use Rattle.sulmirejo.specs.Face.{with-room, room_returned};
+ghost use Rattle.sulmirejo.specs.Face.{with_room, room_returned};
 
 use answers::{Outcome, tell};
 use room_calls::RoomAnswer;
 
 // The room goes to out and work where there is one.
 fn tell_room(answer: RoomAnswer, out: &mut usize, work: &mut usize, number: &mut usize) -> u32
-    ensures { with-room (status_number result number.new) out.new work.new
+    ensures { with_room (status_number result number.new) out.new work.new
         ≡ room_returned (told_room answer) out.old work.old }
 {
     match answer {
@@ -29,7 +29,7 @@ pub extern "C" fn sulmirejo_transform_room(
     work: &mut usize,
     number: &mut usize,
 ) -> u32
-    ensures { with-room (status_number result number.new) 0 work.new
+    ensures { with_room (status_number result number.new) 0 work.new
         ≡ room_returned (transform_room_answer length) 0 work.old }
 {
     let mut none = 0;
@@ -44,7 +44,7 @@ pub extern "C" fn sulmirejo_encode_room(
     work: &mut usize,
     number: &mut usize,
 ) -> u32
-    ensures { with-room (status_number result number.new) out.new work.new
+    ensures { with_room (status_number result number.new) out.new work.new
         ≡ room_returned (encode_room_answer k n) out.old work.old }
 {
     tell_room(room_calls::encode_room(k, n), out, work, number)
@@ -58,7 +58,7 @@ pub extern "C" fn sulmirejo_decode_room(
     work: &mut usize,
     number: &mut usize,
 ) -> u32
-    ensures { with-room (status_number result number.new) out.new work.new
+    ensures { with_room (status_number result number.new) out.new work.new
         ≡ room_returned (decode_room_answer k n) out.old work.old }
 {
     tell_room(room_calls::decode_room(k, n), out, work, number)
@@ -73,7 +73,7 @@ pub extern "C" fn sulmirejo_write_room(
     work: &mut usize,
     number: &mut usize,
 ) -> u32
-    ensures { with-room (status_number result number.new) out.new work.new
+    ensures { with_room (status_number result number.new) out.new work.new
         ≡ room_returned (write_room_answer k n length) out.old work.old }
 {
     tell_room(room_calls::write_room(k, n, length), out, work, number)
@@ -86,7 +86,7 @@ pub extern "C" fn sulmirejo_read_room(
     work: &mut usize,
     number: &mut usize,
 ) -> u32
-    ensures { with-room (status_number result number.new) out.new work.new
+    ensures { with_room (status_number result number.new) out.new work.new
         ≡ room_returned (read_room_answer bundle.now) out.old work.old }
 {
     tell_room(room_calls::read_room(bundle), out, work, number)

@@ -7,7 +7,7 @@ use Prim.Native.Nat.{ℕ, ◌≤◌}
 use borrow.Author.Tests.{ltb-false, eqb-true, not-false}
 use lib.Dec.{ltb, eqb}
 use lib.ListN.{length}
-use Rattle.answers.specs.Refusals.{result}
+use Rattle.answers.specs.Refusals.{the_result}
 use Rattle.limits.specs.Shape.{longest}
 use Rattle.field.specs.Size.{size_of}
 use Rattle.limits.specs.Values.{first_above}
@@ -26,12 +26,12 @@ pub record Good (list : List ℕ) (room : ℕ) : Type 0 where
   pub able : Transformable list
   pub enough : length list ≤ room
 
-pub checks_good : (list : List ℕ) (room : ℕ) → transform_checks list room ≡ result [] → Good list room
+pub checks_good : (list : List ℕ) (room : ℕ) → transform_checks list room ≡ the_result [] → Good list room
 unfolding transform_checks
 checks_good list room e =
     let shape = passed (bad_length (length list)) Shape _ [] e in
     let enough = passed (ltb room (length list)) Room _ [] shape.1 in
-    let above = passed (ltb (first_above list) (length list)) (Value (first_above list)) (result []) [] enough.1 in
+    let above = passed (ltb (first_above list) (length list)) (Value (first_above list)) (the_result []) [] enough.1 in
     record {
       able =
           record {

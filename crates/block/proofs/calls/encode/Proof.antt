@@ -9,7 +9,7 @@ use borrow.Author.Rules.{rules}
 use lib.ListN.{length}
 use lib.Seq.{length_front}
 use Rattle.answers.specs.Leaves.{leaving}
-use Rattle.answers.specs.Refusals.{result}
+use Rattle.answers.specs.Refusals.{the_result}
 use Rattle.answers.proofs.Leaves.{told_done, told_refused, leaves_done, leaves_refused, lent_length, zeroed_part}
 use Rattle.block.specs.Checks.{encode_checks}
 use Rattle.block.proofs.Passing.{encode_passed}
@@ -48,7 +48,7 @@ encode-spec =
     let told = measured.before in
     let start = told.before.before.before.before.before.before in
     let passed = told_done (encode_checks start.args.k start.args.n start.args.message.now (length start.args.out.now) (length start.args.work.now)) _ told.before.before.encode-checks.ensures told.enum_told.given.1 in
-    ap₂ (leaving (result [])) spread.spread.ensures.0
+    ap₂ (leaving (the_result [])) spread.spread.ensures.0
     (zeroed_part _ _ start.args.work.now measured.encode-work.ensures (encode_passed start.args.k start.args.n start.args.message.now (length start.args.out.now) (length start.args.work.now) passed).3 _ spread.spread.ensures.1)
     ∙ leaves_done (encode_checks start.args.k start.args.n start.args.message.now (length start.args.out.now) (length start.args.work.now)) _ _ _ passed)
     (λ c.

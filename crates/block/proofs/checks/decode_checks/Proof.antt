@@ -9,7 +9,7 @@ use borrow.Author.Rules.{rules}
 use borrow.Author.Tests.{lt-ltb, le-ltb, eq-eqb, ne_eqb}
 use lib.Dec.{ltb}
 use lib.ListN.{length}
-use Rattle.answers.specs.Refusals.{Answer, result, refused, refuse_if}
+use Rattle.answers.specs.Refusals.{Answer, the_result, refused, refuse_if}
 use Rattle.limits.specs.Shape.{longest, bad_shape}
 use Rattle.limits.specs.Values.{first_above, refuse_above}
 use Rattle.answers.specs.declared.refusal.Refusal.TheVariants.{Shape, Length, Room, Few, Position, Repeat, Value}
@@ -28,7 +28,7 @@ use Rattle.block.proofs.checks.decode_checks.Tie as tie
 module _ (k n : ℕ) (positions values : List ℕ) (out work : ℕ) where
   -- the checks from VALUE on, from REPEAT on, from POSITION on, from FEW on
   from-value : Answer
-  from-value = refuse_above values (result [])
+  from-value = refuse_above values (the_result [])
 
   from-repeat : Answer
   from-repeat = refuse_if (ltb (first_repeat positions) (length positions)) (Repeat (first_repeat positions)) from-value
@@ -92,7 +92,7 @@ module _ (k n : ℕ) (positions values : List ℕ) (out work : ℕ) where
   unfolding from-value
   at_value i is found = above_found values _ is found
 
-  past_value : (i : ℕ) → i ≡ first_above values → length values ≤ i → result [] ≡ from-value
+  past_value : (i : ℕ) → i ≡ first_above values → length values ≤ i → the_result [] ≡ from-value
   unfolding from-value
   past_value i is none = above_none values _ is none
 

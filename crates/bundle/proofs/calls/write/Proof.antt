@@ -9,7 +9,7 @@ use borrow.Author.Rules.{rules}
 use lib.ListN.{length, drop, replicate}
 use lib.Seq.{length_front}
 use Rattle.answers.specs.Leaves.{leaving, written, zeroed}
-use Rattle.answers.specs.Refusals.{result}
+use Rattle.answers.specs.Refusals.{the_result}
 use Rattle.answers.proofs.Leaves.{told_done, told_refused, leaves_done, leaves_refused, lent_length, zeroed_part}
 use Rattle.bundle.specs.Checks.{write_checks}
 use Rattle.bundle_file.specs.File.{file_bundle}
@@ -20,7 +20,7 @@ use Rattle.bundle.proofs.calls.write.Tie as tie
 -- what stands once the bundle is written: the part of the working space that was lent is e
 done : (bundle out work : List ℕ) (room stated r : ℕ) (o e : List ℕ) → stated ≡ room → room ≤ length work → r ≡ length bundle
     → o ≡ written bundle out → e ≡ replicate room 0
-    → leaving (result (r ∷ [])) o (e ++ drop (stated - 0) work) ≡ leaving (result (length bundle ∷ [])) (written bundle out) (zeroed room work)
+    → leaving (the_result (r ∷ [])) o (e ++ drop (stated - 0) work) ≡ leaving (the_result (length bundle ∷ [])) (written bundle out) (zeroed room work)
 done bundle out work room stated r o e is enough long all zeros = cc (zeroed_part stated room work is enough e zeros)
 
 pub write_spec : {M : Type 1} → statement M

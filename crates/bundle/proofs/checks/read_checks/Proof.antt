@@ -4,7 +4,7 @@ use mathlib.Core.Path.{◌≡◌, sym, ap, ◌∙◌}
 use mathlib.Core.List.{List, []}
 use Prim.Native.Nat.{ℕ}
 use borrow.Author.Rules.{rules}
-use Rattle.answers.specs.Refusals.{Answer, result, refused, after}
+use Rattle.answers.specs.Refusals.{Answer, the_result, refused, after}
 use Rattle.answers.specs.declared.refusal.Refusal.{Refusal}
 use Rattle.answers.proofs.Leaves.{told_done, told_refused}
 use Rattle.bundle_layout.specs.Layout.{layout_checks}
@@ -17,7 +17,7 @@ module _ (s : List ℕ) (out work : ℕ) where
   unfolding read_checks
   at-layout x bad = ap (λ (a : Answer). after a (room_checks s out work)) (sym bad)
 
-  past-layout : {a : Answer} → layout_checks s ≡ result [] → a ≡ room_checks s out work → a ≡ read_checks s out work
+  past-layout : {a : Answer} → layout_checks s ≡ the_result [] → a ≡ room_checks s out work → a ≡ read_checks s out work
   unfolding read_checks
   past-layout good rest = rest ∙ ap (λ (a : Answer). after a (room_checks s out work)) (sym good)
 

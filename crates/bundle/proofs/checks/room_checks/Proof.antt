@@ -7,7 +7,7 @@ use Prim.Native.Nat.{ℕ, ◌<◌, ◌≤◌}
 use borrow.Author.Rules.{rules}
 use borrow.Author.Tests.{lt-ltb, le-ltb}
 use lib.Dec.{ltb}
-use Rattle.answers.specs.Refusals.{result, refused}
+use Rattle.answers.specs.Refusals.{the_result, refused}
 use Rattle.answers.specs.declared.refusal.Refusal.TheVariants.{Room, Few}
 use Rattle.answers.proofs.Checks.{stops, goes_on}
 use Rattle.bundle_layout.specs.Fields.{k_in, n_in, length_in, held_in}
@@ -35,7 +35,7 @@ module _ (s : List ℕ) (out work L n room : ℕ) (short : Bool) (first : L ≡ 
     unfolding room_checks
     at-few h = goes_on Room _ (measured ∙ good) (stops Few _ (few ∙ lt-ltb m k h))
 
-    past-few : k ≤ m → result [] ≡ room_checks s out work
+    past-few : k ≤ m → the_result [] ≡ room_checks s out work
     unfolding room_checks
     past-few h = goes_on Room _ (measured ∙ good) (goes_on Few _ (few ∙ le-ltb m k h) refl)
 

@@ -6,7 +6,7 @@ use mathlib.Core.List.{[]}
 use Prim.Native.Nat.{ℕ}
 use borrow.Author.Rules.{rules}
 use lib.Dec.{ltb}
-use Rattle.answers.specs.Refusals.{result, refused}
+use Rattle.answers.specs.Refusals.{the_result, refused}
 use Rattle.answers.specs.declared.refusal.Refusal.TheVariants.{Shape, Room}
 use Rattle.answers.proofs.Checks.{stops, goes_on}
 use Rattle.bundle_layout.specs.Blocks.{blocks_of}
@@ -30,7 +30,7 @@ module _ (k n L : ℕ) (bad : Bool) (judged : bad ≡ bad_bundle_shape k n L) (g
       unfolding write_checks
       at_room e = goes_on Shape _ (sym judged ∙ good) (stops Room _ (measured ∙ e))
 
-      past_room : short ≡ false → result [] ≡ write_checks k n L out work
+      past_room : short ≡ false → the_result [] ≡ write_checks k n L out work
       unfolding write_checks
       past_room e = simp (sym judged ∙ good, measured ∙ e)
 

@@ -6,7 +6,7 @@ use Prim.Native.Nat.{ℕ, ◌+◌, ◌*◌, ◌<◌}
 use native.Mathlib.Omega.{arith}
 use borrow.Author.Rules.{rules}
 use lib.ListN.{set, length-set}
-use Rattle.answers.specs.Refusals.{result}
+use Rattle.answers.specs.Refusals.{the_result}
 use Rattle.field.specs.Size.{size_of}
 use Rattle.bundle_layout.specs.Fields.{n_in, held_in}
 use Rattle.bundle_layout.specs.Layout.{layout_checks}
@@ -17,7 +17,7 @@ use Rattle.bundle_gather.proofs.Starting.{words_laid_lem, cursor_laid}
 use Rattle.bundle_gather.proofs.once.lay_shadow.Statement.{statement}
 use Rattle.bundle_gather.proofs.once.lay_shadow.Tie as tie
 
-inside : (s : List ℕ) (t size : ℕ) → layout_checks s ≡ result [] → t < held_in s → size ≡ size_of (n_in s) → t < size
+inside : (s : List ℕ) (t size : ℕ) → layout_checks s ≡ the_result [] → t < held_in s → size ≡ size_of (n_in s) → t < size
 inside s t size good h is = omega (arith, held_room s good)
 
 laid : (cells : List ℕ) (a b c : ℕ) {u v w x y z : ℕ} → u ≡ x → v ≡ y → w ≡ z → set (set (set cells a u) b v) c w ≡ set (set (set cells a x) b y) c z

@@ -6,7 +6,7 @@ use Prim.Native.Nat.{ℕ, ◌-◌, ◌<◌, ◌≤◌}
 use native.Mathlib.Omega.{arith}
 use borrow.Author.Rules.{rules}
 use lib.ListN.{length}
-use Rattle.answers.specs.Refusals.{result}
+use Rattle.answers.specs.Refusals.{the_result}
 use Rattle.field.specs.Size.{size_of}
 use Rattle.bundle_layout.specs.Fields.{n_in, held_in, position_in}
 use Rattle.bundle_layout.specs.Layout.{layout_checks}
@@ -25,7 +25,7 @@ decreases-loop bundle marks₀ held t₀ marks t = held - t
 
 -- held and place are what the code has read
 
-place : (s : List ℕ) → layout_checks s ≡ result [] → (t at : ℕ) → t < held_in s → at ≡ position_in s t → at < size_of (n_in s)
+place : (s : List ℕ) → layout_checks s ≡ the_result [] → (t at : ℕ) → t < held_in s → at ≡ position_in s t → at < size_of (n_in s)
 place s good t at h is = omega (arith, position_inside s good t h)
 
 long : (s : List ℕ) (t : ℕ) (marks : List ℕ) → marks ≡ marks_in s t → length marks ≡ size_of (n_in s)

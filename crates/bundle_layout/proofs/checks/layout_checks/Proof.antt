@@ -7,7 +7,7 @@ use Prim.Native.Nat.{ℕ, ◌≤◌}
 use native.Mathlib.Omega.{arith}
 use borrow.Author.Rules.{rules}
 use lib.ListN.{length}
-use Rattle.answers.specs.Refusals.{result, refused}
+use Rattle.answers.specs.Refusals.{the_result, refused}
 use Rattle.answers.specs.declared.refusal.Refusal.TheVariants.{Shape, Form}
 use Rattle.answers.proofs.Checks.{stops}
 use Rattle.bundle_layout.specs.Blocks.{blocks_of}
@@ -38,7 +38,7 @@ module _ (s : List ℕ) (k n L : ℕ) (front bad : Bool) (first : k ≡ k_in s) 
   unfolding layout_checks
   rest_bad rest e is found = simp (sym told ∙ good, shape ∙ e, sym is ∙ found)
 
-  rest-fine : (rest : Bool) → bad ≡ false → rest ≡ rest_good s → rest ≡ true → result [] ≡ layout_checks s
+  rest-fine : (rest : Bool) → bad ≡ false → rest ≡ rest_good s → rest ≡ true → the_result [] ≡ layout_checks s
   rest-fine rest e is found = sym (tests_pass s (sym told ∙ good) (shape ∙ e) (sym is ∙ found))
 
 blocks-read : (s : List ℕ) (k L B : ℕ) → k ≡ k_in s → L ≡ length_in s → B ≡ blocks_of k L → B ≡ blocks_in s

@@ -7,7 +7,7 @@ use native.Mathlib.Omega.{arith}
 use borrow.Author.Rules.{rules}
 use borrow.Author.Tests.{le-leb, lt-leb}
 use lib.ListN.{length}
-use Rattle.answers.specs.Refusals.{result, refused}
+use Rattle.answers.specs.Refusals.{the_result, refused}
 use Rattle.answers.specs.declared.refusal.Refusal.{Refusal}
 use Rattle.answers.specs.declared.refusal.Refusal.TheVariants.{Position}
 use Rattle.answers.proofs.Leaves.{told_done, told_refused}
@@ -23,7 +23,7 @@ refuses : (s : List ℕ) (t : ℕ) (x : Refusal) → layout_checks s ≡ refused
 unfolding entry_answer
 refuses s t x bad = simp bad
 
-module _ (s : List ℕ) (good : layout_checks s ≡ result []) where
+module _ (s : List ℕ) (good : layout_checks s ≡ the_result []) where
   long : 16 ≤ length s
   unfolding header_size
   long = header_inside s good
@@ -38,7 +38,7 @@ module _ (s : List ℕ) (good : layout_checks s ≡ result []) where
     there h = entry_there s good t (omega arith)
 
     answers : (p o c : ℕ) → t < m → p ≡ position_in s t → o ≡ offset_in s t → c ≡ count_in s t
-        → result (p ∷ o ∷ c ∷ []) ≡ entry_answer s t
+        → the_result (p ∷ o ∷ c ∷ []) ≡ entry_answer s t
     unfolding entry_answer
     answers p o c h first second third = simp (good, lt-leb (held_in s) t (omega arith), first, second, third)
 

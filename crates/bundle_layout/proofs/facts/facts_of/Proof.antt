@@ -6,7 +6,7 @@ use Prim.Native.Nat.{ℕ, ◌<◌, ◌≤◌}
 use native.Mathlib.Omega.{arith}
 use borrow.Author.Rules.{rules}
 use lib.ListN.{length}
-use Rattle.answers.specs.Refusals.{result, refused}
+use Rattle.answers.specs.Refusals.{the_result, refused}
 use Rattle.limits.specs.Shape.{longest}
 use Rattle.answers.specs.declared.refusal.Refusal.{Refusal}
 use Rattle.answers.proofs.Leaves.{told_done, told_refused}
@@ -24,7 +24,7 @@ refuses : (s : List ℕ) (x : Refusal) → layout_checks s ≡ refused x → ref
 unfolding facts_answer
 refuses s x bad = simp bad
 
-module _ (s : List ℕ) (good : layout_checks s ≡ result []) where
+module _ (s : List ℕ) (good : layout_checks s ≡ the_result []) where
   long : 16 ≤ length s
   unfolding header_size
   long = header_inside s good
@@ -34,7 +34,7 @@ module _ (s : List ℕ) (good : layout_checks s ≡ result []) where
       (omega (arith, k_some s good), omega (arith, k_limited s good), omega (arith, length_limited s good))
 
   answers : (k n L m B : ℕ) → k ≡ k_in s → n ≡ n_in s → L ≡ length_in s → m ≡ held_in s → B ≡ blocks_of k L
-      → result (k ∷ n ∷ L ∷ m ∷ B ∷ []) ≡ facts_answer s
+      → the_result (k ∷ n ∷ L ∷ m ∷ B ∷ []) ≡ facts_answer s
   unfolding facts_answer blocks_in
   answers k n L m B first second third fourth is = simp (good, is, first, second, third, fourth)
 

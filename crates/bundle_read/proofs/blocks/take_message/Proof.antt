@@ -5,7 +5,7 @@ use mathlib.Core.List.{List, []}
 use Prim.Native.Nat.{ℕ, ◌*◌, ◌-◌, ◌<◌}
 use native.Mathlib.Omega.{arith}
 use borrow.Author.Rules.{rules}
-use Rattle.answers.specs.Refusals.{result}
+use Rattle.answers.specs.Refusals.{the_result}
 use Rattle.answers.specs.declared.refusal.Refusal.TheVariants.{Word, Tail}
 use Rattle.bundle_layout.specs.Shape.{longest_file}
 use Rattle.bundle_layout.specs.Fields.{k_in, length_in, blocks_in}
@@ -19,7 +19,7 @@ use Rattle.bundle_read.proofs.blocks.take_message.Tie as tie
 begins : (s : List ℕ) (b k : ℕ) → k ≡ k_in s → 2 * (k * b) ≡ 2 * (k_in s * b)
 begins s b k is = ap (λ (z : ℕ). 2 * (z * b)) is
 
-inside : (s : List ℕ) (b k : ℕ) → layout_checks s ≡ result [] → b < blocks_in s → k ≡ k_in s → 2 * (k * b) < length_in s
+inside : (s : List ℕ) (b k : ℕ) → layout_checks s ≡ the_result [] → b < blocks_in s → k ≡ k_in s → 2 * (k * b) < length_in s
 inside s b k good h is = omega (arith, begins s b k is, begins_inside s good b h)
 
 rest : (s : List ℕ) (b k L : ℕ) → k ≡ k_in s → L ≡ length_in s → L - 2 * (k * b) ≡ length_in s - 2 * (k_in s * b)

@@ -5,7 +5,7 @@ use mathlib.Core.List.{[], ◌∷◌}
 use Prim.Native.Nat.{ℕ}
 use borrow.Author.Rules.{rules}
 use borrow.Author.Tests.{lt-ltb, le-ltb, eq-eqb, ne_eqb}
-use Rattle.answers.specs.Refusals.{result}
+use Rattle.answers.specs.Refusals.{the_result}
 use Rattle.field_calls.proofs.operations.inverse.Statement.{statement}
 use Rattle.field_calls.proofs.operations.inverse.Tie as tie
 
@@ -20,4 +20,4 @@ inverse-spec =
     (λ c κs. search rules)
     (λ c.
     simp (le-ltb _ _ c.before.before.if1.false, ne_eqb _ _ c.before.if2.false)
-    (ap (λ (v : ℕ). result (v ∷ [])) c.inverse.ensures.is)))
+    (ap (λ (v : ℕ). the_result (v ∷ [])) c.inverse.ensures.is)))

@@ -6,7 +6,7 @@ use Prim.Native.Nat.{ℕ}
 use borrow.Author.Rules.{rules}
 use borrow.Author.Tests.{le-leb, lt-leb}
 use Rattle.field.specs.Points.{point_of}
-use Rattle.answers.specs.Refusals.{result}
+use Rattle.answers.specs.Refusals.{the_result}
 use Rattle.field_calls.specs.Points.{point_answer}
 use Rattle.field_calls.proofs.points.point_at.Statement.{statement}
 use Rattle.field_calls.proofs.points.point_at.Tie as tie
@@ -27,5 +27,5 @@ point-at-spec =
       sym c.before.before.before.before.bad-shape.ensures ∙ c.before.before.before.if1.false,
       lt-leb _ _ c.before.if2.false,
     )
-    (ap (λ (v : ℕ). result (v ∷ []))
+    (ap (λ (v : ℕ). the_result (v ∷ []))
     (c.point-of.ensures.is ∙ ap (λ (size : ℕ). point_of size c.before.before.before.before.before.args.position.0) c.before.before.size.ensures))))

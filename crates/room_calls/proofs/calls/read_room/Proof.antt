@@ -4,7 +4,7 @@ use mathlib.Core.Path.{◌≡◌}
 use mathlib.Core.List.{List, [], ◌∷◌}
 use Prim.Native.Nat.{ℕ}
 use borrow.Author.Rules.{rules}
-use Rattle.answers.specs.Refusals.{result, refused}
+use Rattle.answers.specs.Refusals.{the_result, refused}
 use Rattle.answers.specs.declared.refusal.Refusal.{Refusal}
 use Rattle.answers.proofs.Leaves.{told_done, told_refused}
 use Rattle.bundle_layout.specs.Fields.{n_in, length_in}
@@ -21,8 +21,8 @@ module _ (s : List ℕ) where
   refuses x bad = simp bad
 
   -- L, n and room are what the calls gave that read the header and work the room out
-  answers : (L n room : ℕ) → layout_checks s ≡ result [] → L ≡ length_in s → n ≡ n_in s → room ≡ bundle_work n
-      → result (L ∷ room ∷ []) ≡ read_room_answer s
+  answers : (L n room : ℕ) → layout_checks s ≡ the_result [] → L ≡ length_in s → n ≡ n_in s → room ≡ bundle_work n
+      → the_result (L ∷ room ∷ []) ≡ read_room_answer s
   unfolding read_room_answer
   answers L n room good first second is = simp (good, first, is, second)
 

@@ -9,7 +9,7 @@ use borrow.Author.Rules.{rules}
 use lib.ListN.{length, replicate}
 use lib.Seq.{length_front}
 use Rattle.answers.specs.Leaves.{leaving}
-use Rattle.answers.specs.Refusals.{result}
+use Rattle.answers.specs.Refusals.{the_result}
 use Rattle.answers.proofs.Leaves.{told_done, told_refused, leaves_done, leaves_refused, lent_length, zeroed_part}
 use Rattle.transform.proofs.Passing.{checks_good}
 use Rattle.transform.proofs.calls.call.Statement.{statement}
@@ -44,7 +44,7 @@ call-spec =
     let start = judged.before.before.before.before in
     let good = told_done _ _ judged.transform-checks.ensures told.enum_told.given.1 in
     let enough = (checks_good _ _ good).enough in
-    ap₂ (leaving (result [])) worked.one_of.ensures
+    ap₂ (leaving (the_result [])) worked.one_of.ensures
     (zeroed_part (length start.args.list.now) (length start.args.list.now) start.args.work.now refl enough _
     (cleared.clear.ensures ∙ ap (λ (m : ℕ). replicate m 0) (lent_length (length start.args.list.now) (length start.args.list.now) start.args.work.now refl enough)))
     ∙ leaves_done _ _ _ _ good)

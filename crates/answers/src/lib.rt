@@ -1,4 +1,6 @@
 // The refusals that every crate above answers with, and how an answer is told: by document 01's number and place, and as a caller from C gets them.
+#![tactic(auto)]
+
 mod refusal;
 
 ghost use Rattle.std.specs.Prelude.{◌≡◌};

@@ -1,5 +1,5 @@
 // The refusals by name (document 01, "Numbers a refusal carries"); those whose place is stated carry it.
-#[derive(Drop)]
+#[derive(Clone, Copy)]
 pub enum Refusal {
     Shape,
     Length,
@@ -15,7 +15,7 @@ pub enum Refusal {
 }
 
 // The answer of a call whose result lies in lent memory.
-#[derive(Drop)]
+#[derive(Clone, Copy)]
 pub enum Outcome {
     Done,
     Refused(Refusal),

@@ -1,4 +1,6 @@
 // One block: its code word from the message, and the message from any k or more symbols of the code word.
+#![tactic(auto)]
+
 mod calls;
 mod checks;
 pub mod inner;

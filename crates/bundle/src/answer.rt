@@ -1,7 +1,7 @@
 // The answer of the writer and of the reader.
 use answers::Refusal;
 
-#[derive(Drop)]
+#[derive(Clone, Copy)]
 pub enum LengthAnswer {
     Length(usize),
     Refused(Refusal),

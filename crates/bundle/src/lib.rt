@@ -1,4 +1,6 @@
 // Bundles: written from a file, and read back to the file.
+#![tactic(auto)]
+
 mod answer;
 mod calls;
 mod checks;

@@ -1,5 +1,7 @@
 // No entry points: a file as blocks of words, what its shadows are, the code word of each block, and how many symbols of each shadow overflow. The
 // callers have passed the checks of its length.
+#![tactic(auto)]
+
 mod counts;
 mod words;
 

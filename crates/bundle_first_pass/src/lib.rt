@@ -1,6 +1,8 @@
 // No entry points: the first pass of writing a bundle, which is the only one where no symbol overflows. It counts the overflows, of which the table
 // needs the counts, and until one is met it writes the bodies as they lie where there is none. What it writes lies inside the bundle in any case.
 // The caller has made the checks.
+#![tactic(auto)]
+
 ghost use Rattle.std.specs.Prelude.{◌≡◌, false, suc, ◌+◌, ◌*◌, ◌<◌, ◌≤◌, length};
 ghost use Rattle.field.specs.Size.{size_of};
 ghost use Rattle.bundle_layout.specs.Blocks.{blocks_of};
@@ -35,7 +37,7 @@ pub fn put_at(
 
 // The symbols of block b into bodies that list nothing.
 fn store_plain(k: usize, n: usize, file: &[u8], b: usize, out: &mut [u8], cells: &[u32])
-    requires file_value { (bad_bundle_shape k n (length file.now) ≡ false) × (b < blocks_of k (length file.now))
+    requires begun { (bad_bundle_shape k n (length file.now) ≡ false) × (b < blocks_of k (length file.now))
         × Plain k n file.now b out.old × (n ≤ length cells.now) }
     requires coded { Coded k n file.now b cells.now }
     ensures plainly { Plainly k n file.now out.old out.new }
@@ -54,7 +56,7 @@ fn store_plain(k: usize, n: usize, file: &[u8], b: usize, out: &mut [u8], cells:
 
 // The same, unless a symbol before them overflowed: then the bodies have to be written anew, and storing is only time.
 fn store_if_none(k: usize, n: usize, file: &[u8], b: usize, out: &mut [u8], cells: &[u32])
-    requires file_value { (bad_bundle_shape k n (length file.now) ≡ false) × (b < blocks_of k (length file.now))
+    requires begun { (bad_bundle_shape k n (length file.now) ≡ false) × (b < blocks_of k (length file.now))
         × Plain k n file.now b out.old × Counted k n file.now b cells.now }
     requires coded { Coded k n file.now b cells.now }
     ensures plainly { Plainly k n file.now out.old out.new }

@@ -1,4 +1,6 @@
 // No entry points: the front of a file's bundle, which is its header and its table. The caller has made the checks.
+#![tactic(auto)]
+
 ghost use Rattle.std.specs.Prelude.{◌≡◌, false, ◌++◌, ◌+◌, ◌<◌, ◌≤◌, length};
 ghost use Rattle.bundle_layout.specs.Blocks.{blocks_of};
 ghost use Rattle.bundle_layout.specs.Shape.{bad_bundle_shape};

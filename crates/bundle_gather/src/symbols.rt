@@ -14,7 +14,7 @@ use field::{product, size};
 
 // What shadow t holds for block b, and its cursor on the next block; size is N.
 fn gather_one(bundle: &[u8], size: usize, b: usize, t: usize, cells: &mut [u32])
-    requires bundle_value { (layout_checks bundle.now ≡ the_result []) × (b < blocks_in bundle.now) × (t < held_in bundle.now)
+    requires held { (layout_checks bundle.now ≡ the_result []) × (b < blocks_in bundle.now) × (t < held_in bundle.now)
         × (size ≡ size_of (n_in bundle.now)) }
     requires fixed { Fixed bundle.now cells.old × (get_or cells.old (6 * size + t) 0 ≡ cursor_held bundle.now b t) }
     ensures { cells.new ≡ with_symbol bundle.now size b t cells.old }

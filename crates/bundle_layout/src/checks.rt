@@ -60,9 +60,9 @@ pub fn bad_bundle_shape(k: usize, n: usize, length: usize) -> bool
 
 // Whether entry t is bad: at is where its body has to begin, low the least that its position may be.
 fn bad_entry(bundle: &[u8], n: usize, blocks: usize, t: usize, low: usize, at: usize) -> bool
-    requires entry_size_in_bounds { (entry_at t + entry_size ≤ length bundle.now) × (at ≤ length bundle.now) }
-    requires n_value { (n ≡ n_in bundle.now) × (blocks ≡ blocks_in bundle.now) × (blocks ≤ most_blocks) }
-    requires low_value { (low ≡ least (position_in bundle.now) t) × (at ≡ start_of bundle.now t) }
+    requires inside { (entry_at t + entry_size ≤ length bundle.now) × (at ≤ length bundle.now) }
+    requires header { (n ≡ n_in bundle.now) × (blocks ≡ blocks_in bundle.now) × (blocks ≤ most_blocks) }
+    requires reached { (low ≡ least (position_in bundle.now) t) × (at ≡ start_of bundle.now t) }
     ensures { result ≡ bad_entry bundle.now t }
 {
     let position = position_in(bundle, t);
@@ -80,9 +80,9 @@ fn bad_entry(bundle: &[u8], n: usize, blocks: usize, t: usize, low: usize, at: u
 
 // The table, the bodies and the bundle's end.
 fn rest_good(bundle: &[u8], n: usize, held: usize, blocks: usize) -> bool
-    requires header_size_in_bounds { (header_size ≤ length bundle.now) × (n ≡ n_in bundle.now) × (held ≡ held_in bundle.now)
+    requires inside { (header_size ≤ length bundle.now) × (n ≡ n_in bundle.now) × (held ≡ held_in bundle.now)
         × (held < 65536) }
-    requires blocks_value { (blocks ≡ blocks_in bundle.now) × (blocks ≤ most_blocks) }
+    requires counted { (blocks ≡ blocks_in bundle.now) × (blocks ≤ most_blocks) }
     ensures { result ≡ rest_good bundle.now }
 {
     let mut at = 16 + 8 * held;

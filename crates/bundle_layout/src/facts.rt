@@ -7,7 +7,7 @@ use crate::checks::layout_checks;
 use crate::inner::{blocks, count_in, held_in, k_in, length_in, n_in, offset_in, position_in};
 use answers::{Outcome, Refusal};
 
-#[derive(Drop)]
+#[derive(Clone, Copy)]
 pub struct Facts {
     pub k: usize,
     pub n: usize,
@@ -16,20 +16,20 @@ pub struct Facts {
     pub blocks: usize,
 }
 
-#[derive(Drop)]
+#[derive(Clone, Copy)]
 pub enum FactsAnswer {
     Facts(Facts),
     Refused(Refusal),
 }
 
-#[derive(Drop)]
+#[derive(Clone, Copy)]
 pub struct Entry {
     pub position: usize,
     pub offset: usize,
     pub count: usize,
 }
 
-#[derive(Drop)]
+#[derive(Clone, Copy)]
 pub enum EntryAnswer {
     Entry(Entry),
     Refused(Refusal),

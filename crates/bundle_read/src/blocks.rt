@@ -18,11 +18,11 @@ use field::size;
 
 // The message of block b into the file, or WORD or TAIL.
 fn take_message(bundle: &[u8], b: usize, message: &[u32], file: &mut [u8]) -> Outcome
-    requires bundle_value { (layout_checks bundle.now ≡ the_result []) × (b < blocks_in bundle.now) }
-    requires message_len { (length message.now ≡ k_in bundle.now) × Symbols message.now }
-    ensures r_value { told_outcome result
+    requires readable { (layout_checks bundle.now ≡ the_result []) × (b < blocks_in bundle.now) }
+    requires a_message { (length message.now ≡ k_in bundle.now) × Symbols message.now }
+    ensures answer { told_outcome result
         ≡ judged (k_in bundle.now) (length_in bundle.now) b (some message.now) }
-    ensures fact { told_outcome result ≡ the_result []
+    ensures laid { told_outcome result ≡ the_result []
         → take (2 * (k_in bundle.now * suc b)) file.new
         ≡ take (length file.old)
         (take (2 * (k_in bundle.now * b)) file.old ++ in_bytes message.now) }
@@ -46,12 +46,12 @@ fn read_block(
     file: &mut [u8],
     cells: &mut [u32],
 ) -> Outcome
-    requires bundle_value { (layout_checks bundle.now ≡ the_result []) × (b < blocks_in bundle.now)
+    requires readable { (layout_checks bundle.now ≡ the_result []) × (b < blocks_in bundle.now)
         × (k_in bundle.now ≤ held_in bundle.now) }
-    requires missing_value { (missing ≡ length (missing_in bundle.now)) × Laid bundle.now b cells.old }
-    ensures r_value { told_outcome result ≡ block_answer bundle.now b }
-    ensures fact { Laid bundle.now (suc b) cells.new }
-    ensures fact_2 { told_outcome result ≡ the_result []
+    requires prepared { (missing ≡ length (missing_in bundle.now)) × Laid bundle.now b cells.old }
+    ensures answer { told_outcome result ≡ block_answer bundle.now b }
+    ensures laid { Laid bundle.now (suc b) cells.new }
+    ensures file { told_outcome result ≡ the_result []
         → BlocksLaid bundle.now b (length file.old) file.old
         → BlocksLaid bundle.now (suc b) (length file.old) file.new }
 {
@@ -68,12 +68,12 @@ fn read_block(
 // The blocks in order, as far as none is refused. Of the file the first bytes are laid, as many as there is room for: a caller who only wants to
 // know whether it can be read lends none. missing is what start returned.
 pub fn read_blocks(bundle: &[u8], missing: usize, file: &mut [u8], cells: &mut [u32]) -> Outcome
-    requires bundle_value { (layout_checks bundle.now ≡ the_result []) × (k_in bundle.now ≤ held_in bundle.now)
+    requires readable { (layout_checks bundle.now ≡ the_result []) × (k_in bundle.now ≤ held_in bundle.now)
         × (length file.old ≤ length_in bundle.now) }
-    requires missing_value { (missing ≡ length (missing_in bundle.now)) × Laid bundle.now 0 cells.old }
-    ensures bundle_value_2 { after (told_outcome result) (the_result (length_in bundle.now ∷ []))
+    requires prepared { (missing ≡ length (missing_in bundle.now)) × Laid bundle.now 0 cells.old }
+    ensures answer { after (told_outcome result) (the_result (length_in bundle.now ∷ []))
         ≡ blocks_answer bundle.now 0 (blocks_in bundle.now) }
-    ensures fact { told_outcome result ≡ the_result []
+    ensures file { told_outcome result ≡ the_result []
         → file.new ≡ take (length file.old) (file_in bundle.now) }
 {
     let blocks = blocks_in(bundle);

@@ -1,5 +1,7 @@
 // No entry points: numbers in bytes, and how a body stores the symbols of its blocks, for the crates above. Those that read or write at an index
 // ask that it lies inside. Another storage is another crate like this one.
+#![tactic(auto)]
+
 mod body;
 mod bytes;
 

@@ -23,9 +23,9 @@ use field::size;
 
 // The symbol of block b into the body of shadow i, which the table has placed.
 fn put_symbol(out: &mut [u8], i: usize, blocks: usize, b: usize, done: usize, symbol: u32)
-    requires entry_size_in_bounds { (entry_at i + entry_size ≤ length out.old)
+    requires inside { (entry_at i + entry_size ≤ length out.old)
         × (offset_in out.old i + body_size blocks (count_in out.old i) ≤ length out.old) × (blocks < 65536) }
-    requires b_lt_blocks { (b < blocks) × (done ≤ count_in out.old i) × (symbol < 65537) }
+    requires next { (b < blocks) × (done ≤ count_in out.old i) × (symbol < 65537) }
     ensures { out.new
         ≡ stored (offset_in out.old i) (count_in out.old i) done b symbol out.old }
 {
@@ -36,7 +36,7 @@ fn put_symbol(out: &mut [u8], i: usize, blocks: usize, b: usize, done: usize, sy
 
 // The symbols of block b into the bodies.
 fn store_block(k: usize, n: usize, file: &[u8], b: usize, out: &mut [u8], cells: &[u32])
-    requires file_value { (bad_bundle_shape k n (length file.now) ≡ false) × (b < blocks_of k (length file.now))
+    requires begun { (bad_bundle_shape k n (length file.now) ≡ false) × (b < blocks_of k (length file.now))
         × Progress k n file.now b out.old }
     requires counted { Counted k n file.now b cells.now }
     requires coded { Coded k n file.now b cells.now }

@@ -1,4 +1,6 @@
 // No entry points: what is done to lent lists whatever they hold. Clearing and widening take any, copying asks that there is room.
+#![tactic(auto)]
+
 ghost use Rattle.std.specs.Prelude.{◌≡◌, ◌≤◌, length, replicate};
 ghost use Rattle.answers.specs.Leaves.{written};
 

@@ -1,5 +1,7 @@
 // No entry points: the code of one block, what a code word is and what fits held symbols, and the work of encode on input that the checks have
 // passed.
+#![tactic(auto)]
+
 ghost use Rattle.std.specs.Prelude.{◌≡◌, ◌++◌, ◌-◌, ◌≤◌, length, replicate};
 ghost use Rattle.answers.specs.Leaves.{written};
 ghost use Rattle.code.specs.Code.{code_word};

@@ -1,4 +1,6 @@
 // No entry points: the tests of a list of positions, POSITION and REPEAT, for the crate above. They write nothing.
+#![tactic(auto)]
+
 mod repeats;
 
 ghost use Rattle.std.specs.Prelude.{◌≡◌};

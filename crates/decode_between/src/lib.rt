@@ -1,5 +1,7 @@
 // No entry points: the values of a polynomial at the K points between those of the code word, where it can be divided by what vanishes at points
 // of the code word. Of 4N cells the first N hold the coefficients, the next N are room, which the values go to, and the last N hold the powers of ψ.
+#![tactic(auto)]
+
 ghost use Rattle.std.specs.Prelude.{◌≡◌, ◌<◌, take};
 ghost use Rattle.field.specs.Symbol.{IsSymbol};
 ghost use Rattle.lists.specs.Part.{replaced};

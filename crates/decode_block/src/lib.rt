@@ -1,5 +1,7 @@
 // No entry points: the message that fits all held symbols, or that none does, by division by the product over the missing points, where positions
 // and values are lent as lists of their own, as decode has them. The caller has made the checks.
+#![tactic(auto)]
+
 ghost use Rattle.std.specs.Prelude.{◌≡◌, cond, ◌≤◌, length, take};
 ghost use Rattle.std.proofs.Math.Option.{some, none};
 ghost use Rattle.answers.specs.Leaves.{leaving};

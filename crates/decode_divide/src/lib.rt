@@ -1,6 +1,8 @@
 // No entry points: the polynomial of k symbols that, multiplied by the product M over the missing points, has given values at the N points, or that
 // there is none. Of 4N cells the first N hold the values, the next N are room, the third N hold 1 / (N.K.M) at the K points between, and the
 // last N the powers of ψ. Three transforms: one of N, which decides, and two of K.
+#![tactic(auto)]
+
 ghost use Rattle.std.specs.Prelude.{◌≡◌, false, List, ◌++◌, ℕ, ◌+◌, ◌*◌, ◌<◌, ◌≤◌, length, get_or, take, drop};
 ghost use Rattle.limits.specs.Shape.{bad_shape};
 ghost use Rattle.field.specs.Size.{size_of};
@@ -69,8 +71,8 @@ fn untwist(k: usize, size: usize, cells: &mut [u32])
 // From the coefficients of N·f·M in front to those of f, where some point is missing.
 fn quotient(k: usize, size: usize, step: usize, cells: &mut [u32])
     requires { Foldable size step cells.old × (k ≤ step) }
-    ensures cells_after { take k cells.new ≡ quotient_in k size step cells.old }
-    ensures cells_unchanged { drop (2 * size) cells.new ≡ drop (2 * size) cells.old }
+    ensures quotient { take k cells.new ≡ quotient_in k size step cells.old }
+    ensures rest { drop (2 * size) cells.new ≡ drop (2 * size) cells.old }
 {
     values_between(size, step, cells);
     divide_values(size, step, cells);
@@ -82,10 +84,10 @@ fn quotient(k: usize, size: usize, step: usize, cells: &mut [u32])
 // M is monic, so typeof.f.M has no coefficient from k + missing on. Where nothing is missing M is 1.
 pub fn divide(k: usize, n: usize, missing: usize, cells: &mut [u32]) -> bool
     requires { (bad_shape k n ≡ false) × Foldable (size_of n) (size_of k) cells.old × (missing ≤ size_of n) }
-    ensures by_index { (zs : List ℕ) → length zs ≡ missing → ZeroAt k zs (take (size_of n) cells.old)
+    ensures divided { (zs : List ℕ) → length zs ≡ missing → ZeroAt k zs (take (size_of n) cells.old)
         → (0 < missing → InversesBetween (size_of n) (size_of k) zs (drop (2 * size_of n) cells.old))
         → Divided result k zs (take (size_of n) cells.old) (take k cells.new) }
-    ensures cells_unchanged { drop (2 * size_of n) cells.new ≡ drop (2 * size_of n) cells.old }
+    ensures rest { drop (2 * size_of n) cells.new ≡ drop (2 * size_of n) cells.old }
 {
     let step = size(k);
     let size = size(n);

@@ -1,6 +1,8 @@
 // No entry points: the positions of a code word that are not held, their points, and what division by the product over them has to do with the
 // message that fits. Of 4N cells the third N hold a mark for each held position, and the missing points go to the end of the first N, which are 0
 // before.
+#![tactic(auto)]
+
 ghost use Rattle.std.specs.Prelude.{◌≡◌, cond, ◌++◌, ◌-◌, ◌*◌, ◌<◌, ◌≤◌, eqb, length, get_or, take, drop, set, replicate};
 ghost use Rattle.field.specs.Size.{size_of};
 ghost use Rattle.decode_missing.specs.Missing.{missing_points};
@@ -11,8 +13,8 @@ use field::{level, product, root};
 // The point before the others, where its position has no mark; what is returned is where the points begin.
 fn lay_point(cells: &mut [u32], mark: usize, place: usize, point: u32) -> usize
     requires { (mark < length cells.old) × (0 < place) × (place ≤ length cells.old) }
-    ensures value { result ≡ cond (eqb (get_or cells.old mark 0) 0) (place - 1) place }
-    ensures cells_after { cells.new
+    ensures place { result ≡ cond (eqb (get_or cells.old mark 0) 0) (place - 1) place }
+    ensures points { cells.new
         ≡ cond (eqb (get_or cells.old mark 0) 0) (set cells.old (place - 1) point) cells.old }
 {
     if cells[mark] != 0 {
@@ -26,8 +28,8 @@ fn lay_point(cells: &mut [u32], mark: usize, place: usize, point: u32) -> usize
 // The missing points, and how many they are.
 pub fn lay_missing(size: usize, cells: &mut [u32]) -> usize
     requires { (length cells.old ≡ 4 * size) × (size ≡ size_of size) × (take size cells.old ≡ replicate size 0) }
-    ensures value { result ≡ length (missing_points size (marks_at size cells.old)) }
-    ensures cells_after { cells.new
+    ensures missing { result ≡ length (missing_points size (marks_at size cells.old)) }
+    ensures points { cells.new
         ≡ replicate (size - result) 0 ++ (missing_points size (marks_at size cells.old) ++ drop size cells.old) }
 {
     let root = root(level(size));

@@ -1,6 +1,8 @@
 // No entry points: what decoding works out of the positions alone, before it looks at a value, in 4N cells, of which the third N hold a mark for
 // each position that is held. It leaves M(x) at the N points in the first N cells, 1 / (N.K.M) at the K points between in the third N, and the
 // powers of ψ in the last.
+#![tactic(auto)]
+
 mod vanishing;
 
 ghost use Rattle.std.specs.Prelude.{◌≡◌, false, ◌++◌, ◌+◌, ◌-◌, ◌*◌, ◌<◌, ◌≤◌, length, get_or, take, drop, replicate};
@@ -52,10 +54,10 @@ fn invert(size: usize, step: usize, cells: &mut [u32])
 // From M's coefficients in front: M at the points between, inverted, and then M at the N points, in front.
 fn weigh(size: usize, step: usize, cells: &mut [u32])
     requires { Foldable size step cells.old }
-    ensures cells_after { take size cells.new ≡ transform_of (take size cells.old) }
-    ensures cells_after_2 { take step (drop (2 * size) cells.new)
+    ensures first { take size cells.new ≡ transform_of (take size cells.old) }
+    ensures second { take step (drop (2 * size) cells.new)
         ≡ inverses_of size step (λ i. get_or (values_between size step (take size cells.old)) i 0) }
-    ensures cells_unchanged { drop (3 * size) cells.new ≡ drop (3 * size) cells.old }
+    ensures rest { drop (3 * size) cells.new ≡ drop (3 * size) cells.old }
 {
     values_between(size, step, cells);
     invert(size, step, cells);
@@ -65,10 +67,10 @@ fn weigh(size: usize, step: usize, cells: &mut [u32])
 // The powers of ψ, and the missing points before the end of the first N cells; how many they are.
 fn begin(size: usize, cells: &mut [u32]) -> usize
     requires { (length cells.old ≡ 4 * size) × (size ≡ size_of size) × (level_of size < 16) }
-    ensures value { result ≡ length (missing_points size (marks_at size cells.old)) }
-    ensures cells_after { take size cells.new
+    ensures missing { result ≡ length (missing_points size (marks_at size cells.old)) }
+    ensures first { take size cells.new
         ≡ replicate (size - result) 0 ++ missing_points size (marks_at size cells.old) }
-    ensures cells_after_2 { drop (3 * size) cells.new ≡ tab size (power (psi size)) }
+    ensures second { drop (3 * size) cells.new ≡ tab size (power (psi size)) }
 {
     let twist = root(level(size) + 1);
     lay_powers(twist, &mut cells[3 * size..]);

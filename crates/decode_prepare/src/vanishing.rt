@@ -26,13 +26,13 @@ fn bring(from: usize, count: usize, cells: &mut [u32])
 // The points stand at the end of the first N cells, and zeros before them. A power of two of numbers is multiplied out, some of the zeros with
 // the points: these only move the coefficients up.
 fn multiply_points(size: usize, missing: usize, cells: &mut [u32])
-    requires cells_len { (length cells.old ≡ 4 * size) × (size ≡ size_of size) × (level_of size < 16) × (0 < missing)
+    requires sizes { (length cells.old ≡ 4 * size) × (size ≡ size_of size) × (level_of size < 16) × (0 < missing)
         × (missing ≤ size) }
-    requires cells_value { (take (size - missing) cells.old ≡ replicate (size - missing) 0)
+    requires points { (take (size - missing) cells.old ≡ replicate (size - missing) 0)
         × Symbols (part (size - missing) missing cells.old) }
-    ensures cells_after { part (size - missing) missing cells.new
+    ensures values { part (size - missing) missing cells.new
         ≡ take missing (vanishing (part (size - missing) missing cells.old)) }
-    ensures cells_unchanged { drop (2 * size) cells.new ≡ drop (2 * size) cells.old }
+    ensures rest { drop (2 * size) cells.new ≡ drop (2 * size) cells.old }
 {
     let span = field::size(missing);
     multiply_out(&mut cells[size - span..size + span]);
@@ -40,13 +40,13 @@ fn multiply_points(size: usize, missing: usize, cells: &mut [u32])
 
 // M's coefficients in front, and zeros behind them.
 pub fn lay_product(size: usize, missing: usize, cells: &mut [u32])
-    requires cells_len { (length cells.old ≡ 4 * size) × (size ≡ size_of size) × (level_of size < 16) × (0 < missing)
+    requires sizes { (length cells.old ≡ 4 * size) × (size ≡ size_of size) × (level_of size < 16) × (0 < missing)
         × (missing < size) }
-    requires cells_value { (take (size - missing) cells.old ≡ replicate (size - missing) 0)
+    requires points { (take (size - missing) cells.old ≡ replicate (size - missing) 0)
         × Symbols (part (size - missing) missing cells.old) }
-    ensures cells_after { take size cells.new
+    ensures values { take size cells.new
         ≡ vanishing (part (size - missing) missing cells.old) ++ replicate (size - missing - 1) 0 }
-    ensures cells_unchanged { drop (2 * size) cells.new ≡ drop (2 * size) cells.old }
+    ensures rest { drop (2 * size) cells.new ≡ drop (2 * size) cells.old }
 {
     multiply_points(size, missing, cells);
     bring(size - missing, missing, cells);

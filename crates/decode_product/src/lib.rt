@@ -1,5 +1,7 @@
 // No entry points: the product of X - z over a list of points, in its place, for the crates above, whose list is good. The products over the
 // halves of the list are multiplied, in one way where they are short and in another where they are long, so that few products are reduced.
+#![tactic(auto)]
+
 mod moving;
 mod singly;
 mod sums;

@@ -45,9 +45,9 @@ fn high(cells: &[u32], i: usize) -> u32
 // The coefficients to the room behind the two lists.
 fn fill(cells: &mut [u32])
     requires { TwoFactors cells.old }
-    ensures cells_after { take (length cells.old / 4) (drop (length cells.old / 4) cells.new)
+    ensures first { take (length cells.old / 4) (drop (length cells.old / 4) cells.new)
         ≡ take (length cells.old / 4) (monic_times (first_factor cells.old) (second_factor cells.old)) }
-    ensures cells_after_2 { drop (length cells.old / 4 * 3) cells.new
+    ensures second { drop (length cells.old / 4 * 3) cells.new
         ≡ drop (length cells.old / 4) (monic_times (first_factor cells.old) (second_factor cells.old)) }
 {
     let quarter = cells.len() / 4;

@@ -1,5 +1,7 @@
 // No entry points: numbers modulo 65537, the table of roots, positions and points. Sum and difference ask for symbols, and root for an index of
 // the table; the others take any number, and it is the entry point that refuses.
+#![tactic(auto)]
+
 mod arithmetic;
 mod orders;
 mod points;

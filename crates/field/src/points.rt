@@ -7,10 +7,10 @@ ghost use Rattle.field.specs.Symbol.{IsSymbol};
 use crate::arithmetic::power;
 use crate::orders::{level, root};
 
-#[derive(Drop)]
+#[derive(Clone, Copy)]
 pub struct Position(pub usize);
 
-#[derive(Drop)]
+#[derive(Clone, Copy)]
 pub struct Point(pub u32);
 
 // In lent lists a position stands as a bare number.

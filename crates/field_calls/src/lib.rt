@@ -1,4 +1,6 @@
 // The field's entry points: the operations, and the point that a position stands for.
+#![tactic(auto)]
+
 mod operations;
 mod points;
 

@@ -6,7 +6,7 @@ ghost use Rattle.field_calls.specs.Operations.{told_symbol, sum_answer, differen
 
 use answers::Refusal;
 
-#[derive(Drop)]
+#[derive(Clone, Copy)]
 pub enum SymbolAnswer {
     Symbol(u32),
     Refused(Refusal),

@@ -5,7 +5,7 @@ ghost use Rattle.field_calls.specs.Points.{told_point, point_answer};
 use answers::Refusal;
 use field::{Point, Position};
 
-#[derive(Drop)]
+#[derive(Clone, Copy)]
 pub enum PointAnswer {
     Point(Point),
     Refused(Refusal),

@@ -1,5 +1,7 @@
 // No entry points: the limits that several calls test alike, SHAPE of a block, ROOM and VALUE. They take any numbers and write nothing; it is the
 // entry point that refuses.
+#![tactic(auto)]
+
 ghost use Rattle.std.specs.Prelude.{◌≡◌, ◌||◌, ltb};
 ghost use Rattle.limits.specs.Shape.{bad_shape};
 ghost use Rattle.limits.specs.Values.{first_above};

@@ -1,5 +1,7 @@
 // Lists the bundle that comes on standard input. All that is decided stands in `listing_text`; here bytes are read and written. Reads and writes
 // go by parts of the buffers themselves, because the program may take 65,536 bytes in all and a copy would add to its stack.
+#![tactic(auto)]
+
 ghost use Rattle.std.specs.Prelude.{◌≤◌, length};
 
 use libc::{STDIN_FILENO, STDOUT_FILENO};

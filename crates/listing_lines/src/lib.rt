@@ -1,5 +1,7 @@
 // No entry points: the lines of the listing as text. Each function puts a line into lent bytes from an index on and answers where it ends; it asks
 // that there is room for the line's longest form.
+#![tactic(auto)]
+
 mod pieces;
 
 ghost use Rattle.std.specs.Prelude.{[], ◌+◌, ◌≤◌, length};

@@ -1,4 +1,6 @@
 // No entry points: what the listing program prints, as text in lent memory, and all that it decides.
+#![tactic(auto)]
+
 mod answer;
 mod table;
 

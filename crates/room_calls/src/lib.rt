@@ -1,4 +1,6 @@
 // How much room each call asks for, told before the call.
+#![tactic(auto)]
+
 mod answer;
 mod calls;
 

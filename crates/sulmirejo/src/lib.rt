@@ -1,5 +1,7 @@
 // The face: the functions that C calls. Each hands its arguments to a proved function and turns the answer into number and place; nothing else
 // is done here.
+#![tactic(auto)]
+
 mod bundles;
 mod room;
 

@@ -1,6 +1,8 @@
 // No entry points: the transform and its inverse in the list itself, equal to the plain sums, with no room beside it. Those that ask for a good
 // list say so; scaling takes any. The list is put in the order in which its even places are the front half and its odd places the back half, at
 // every size; then halves are halved until one number is left, and joined in place.
+#![tactic(auto)]
+
 ghost use Rattle.std.specs.Prelude.{◌≡◌, ◌%◌, ◌<◌, length, get_or};
 ghost use Rattle.field.specs.Field.{product};
 ghost use Rattle.field.specs.Size.{level_of, size_of};

@@ -1,5 +1,7 @@
 // No entry points: the table of the powers of a root, and the transform that reads its turns from it, for who transforms several lists of one
 // size. Two parts of one slice cannot be lent at once, so list and table lie in one slice and are given by where they begin.
+#![tactic(auto)]
+
 ghost use Rattle.std.specs.Prelude.{◌≡◌, ◌+◌, length};
 ghost use Rattle.field.specs.Field.{power, inverse};
 ghost use Rattle.field.specs.Points.{root_of};

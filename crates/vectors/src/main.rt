@@ -1,4 +1,6 @@
 // Runs the field's worked numbers and limits, one to a line; what it must write is worked out apart from it, by tests/vectors.py.
+#![tactic(auto)]
+
 mod show;
 
 use field::Position;

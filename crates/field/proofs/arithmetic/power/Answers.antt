@@ -7,14 +7,13 @@ use native.Mathlib.Nat.{pow-zero, mul-one, one-mul}
 use native.Mathlib.Omega.{arith}
 use lib.Dec.{lit<}
 use lib.Pow.{pow-add}
-use borrow.Author.Rules.{rules}
 use Rattle.field.specs.Congruence.{◌≈◌}
 use Rattle.field.specs.Field.{product, power}
 use Rattle.field.proofs.Congruence.{≈-of, ≈-sym, ◌∘≈◌, ◌·≈◌, mul-≈, pow-≈, reduced}
 use Rattle.field.proofs.Powers.{pow_two, pow_one}
 use Rattle.field.proofs.Ring.{product-≈, power-≈, power_lt}
-use Rattle.field.proofs.arithmetic.power.Statement.{statement}
-use Rattle.field.proofs.arithmetic.power.Tie as tie
+use Rattle.field.proofs.arithmetic.power.Goals as goal
+use Rattle.field.proofs.arithmetic.power.Goals.{then-left-eq1, else-left-eq1}
 
 -- a power by the square's power and what is left over
 halved : (x n : ℕ) → x ^ n ≈ x ^ (n % 2) * product x x ^ (n / 2)
@@ -40,45 +39,31 @@ none_over result base over none = ≈-of (sym (mul-one result) ∙ ap (result *�
 finished : (x n result base left : ℕ) → left ≡ 0 → result * base ^ left ≈ x ^ n → result ≈ power x n
 finished x n result base left none held = none_over result base left none ∘≈ held ∘≈ ≈-sym (power-≈ x n)
 
-abbrev invariant-loop : tie.invariant-loop
-invariant-loop x n result₀ base₀ left₀ result base left = (result * base ^ left ≈ x ^ n) × (result < 65537)
+pub loop-left-init : goal.loop-left-init
+loop-left-init c = (≈-of (one-mul _), lit< tt)
 
-abbrev decreases-loop : tie.decreases-loop
-decreases-loop x n result₀ base₀ left₀ result base left = left
+pub loop-left-preserved : goal.loop-left-preserved
+loop-left-preserved c =
+    let l = c.loop-left in
+    elim c.if-left-eq1.branch [
+      then-left-eq1 w ↦
+        (
+          turn _ _ l.result l.base l.left _ _ l.invariant.0 c.product-base.ensures.is
+              (≈-of (w.result-is ∙ w.product-result.ensures.is) ∘≈ one-over l.result l.base l.left w.if-left-eq1.true),
+          omega (arith, w.result-is, w.product-result.ensures.small),
+        )
+    | else-left-eq1 w ↦
+        (
+          turn _ _ l.result l.base l.left _ _ l.invariant.0 c.product-base.ensures.is
+              (≈-of w.result-is ∘≈ none_over l.result l.base (l.left % 2) (omega (arith, w.if-left-eq1.false))),
+          omega (arith, w.result-is),
+        )
+    ]
 
-loop-again : tie.Need-loop-preserved invariant-loop decreases-loop
-loop-again c =
-    let l = c.before.before.before.loop in
-    ⊎_elim
-    (λ w. (
-      turn _ _ l.result l.base l.left _ _ l.invariant.0 c.product2.ensures.is
-          (≈-of (w.2 ∙ w.1.ensures.is) ∘≈ one-over l.result l.base l.left w.0.taken),
-      omega (arith, w.2, w.1.ensures.small),
-    ))
-    (λ w. (
-      turn _ _ l.result l.base l.left _ _ l.invariant.0 c.product2.ensures.is
-          (≈-of w.1 ∘≈ none_over l.result l.base (l.left % 2) (omega (arith, w.0.left))),
-      omega (arith, w.1),
-    ))
-    c.before.if1.branch
-
-returns : tie.Need-returns invariant-loop decreases-loop
+pub returns : goal.returns
 returns c =
-    let l = c.before.loop in
+    let l = c.loop-left in
     record {
       is = reduced (finished _ _ l.result l.base l.left (omega arith) l.invariant.0) l.invariant.1 (power_lt _ _);
       small = l.invariant.1;
     }
-
-pub power-spec : {M : Type 1} → statement M
-power-spec =
-    tie.close
-    (tie.spec
-    invariant-loop
-    decreases-loop
-    (λ c. (≈-of (one-mul _), lit< tt))
-    (λ c κs. search rules)
-    (λ c κs. search rules)
-    (λ c. search rules)
-    loop-again
-    returns)

@@ -1,0 +1,11 @@
+use mathlib.Core.Path.{◌≡◌, ◌∙◌}
+use Prim.Native.Nat.{◌+◌, ◌*◌, ◌^◌, ◌/◌, ◌%◌, ◌<◌}
+use Rattle.field.specs.Congruence.{◌≈◌}
+use Rattle.field.proofs.Congruence.{◌∘≈◌, ◌·≈◌}
+use Rattle.field.proofs.arithmetic.power.Given as goal
+
+abbrev pub invariant-loop-left : goal.invariant-loop-left
+invariant-loop-left l = (l.result * l.base ^ l.left ≈ l.x ^ l.exponent) × (l.result < 65537)
+
+abbrev pub decreases-loop-left : goal.decreases-loop-left
+decreases-loop-left l = l.left

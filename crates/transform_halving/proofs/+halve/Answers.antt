@@ -6,13 +6,6 @@ use native.Mathlib.Nat.{lt_of_lt_of_le, le_of_eq}
 use Rattle.transform_halving.proofs.Halves.{first_transformable, first_less, second_transformable, second_less, after_length, after_transformable, after_joined, single_halved}
 use Rattle.transform_halving.proofs.+halve.Goals as goal
 
--- what `halve` is given at the measure t, and what a call of it asks below t
-abbrev halve-at : ℕ → In 1 halve-kinds.ps
-halve-at t = and 1 halve-kinds.ps (is 1 halve-kinds.ps μ-halve t) halve.Pre
-
-abbrev halve-below : ℕ → In 1 halve-kinds.ps
-halve-below t = and 1 halve-kinds.ps (falls 1 halve-kinds.ps ◌<◌ μ-halve t) halve.Pre
-
 pub returns-then-list-lt2 : goal.returns-then-list-lt2
 returns-then-list-lt2 t c = single_halved _ _ c.requires c.if-list-lt2.true
 

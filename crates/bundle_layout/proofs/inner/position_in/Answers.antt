@@ -1,0 +1,22 @@
+-- `bundle_layout::inner::position_in` meets its contract: the entry lies inside, and the position at its front.
+-- Assumes nothing.
+use borrow.Author.Rules.{rules}
+use Rattle.bundle_layout.specs.Fields.{position_in, entry_at}
+use Rattle.bundle_layout.specs.Shadows.{header_size, entry_size}
+use Rattle.bundle_layout.proofs.inner.position_in.Goals as goal
+
+pub returns : goal.returns
+unfolding position_in entry_at header_size entry_size
+returns c = search rules
+
+pub overflow_mul-t : goal.overflow_mul-t
+unfolding position_in entry_at header_size entry_size
+overflow_mul-t c = search rules
+
+pub overflow_add-t : goal.overflow_add-t
+unfolding position_in entry_at header_size entry_size
+overflow_add-t c = search rules
+
+pub two_at-requires : goal.two_at-requires
+unfolding position_in entry_at header_size entry_size
+two_at-requires c = search rules

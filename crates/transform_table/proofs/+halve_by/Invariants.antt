@@ -1,0 +1,4 @@
+use Rattle.transform_table.proofs.+halve_by.Given as goal
+
+abbrev pub decreases-halve_by : goal.decreases-halve_by
+decreases-halve_by l = l.size

@@ -5,7 +5,6 @@ use mathlib.Core.List.{List}
 use Prim.Native.Nat.{ℕ, ◌+◌, ◌-◌, ◌*◌, ◌^◌, ◌<◌}
 use native.Mathlib.Nat.{add-zero, pow-zero, le_of_eq}
 use native.Mathlib.Omega.{arith}
-use borrow.Author.Rules.{rules}
 use lib.ListN.{get_or, drop}
 use lib.Seq.{get_or-drop}
 use Rattle.field.specs.Congruence.{◌≈◌}
@@ -17,8 +16,7 @@ use Rattle.decode_between.specs.Foldable.{PsiTable}
 use Rattle.decode_between.proofs.Foldable.{power_at, size_N, N_small}
 use Rattle.decode_divide.specs.Quotients.{untwisted}
 use Rattle.decode_divide.proofs.Untwisting.{untwist}
-use Rattle.decode_divide.proofs.untwist_one.Statement.{statement}
-use Rattle.decode_divide.proofs.untwist_one.Tie as tie
+use Rattle.decode_divide.proofs.untwist_one.Goals as goal
 
 module _ (N i : ℕ) (d : List ℕ) (table : PsiTable N d) (inside : i < N) where
   at_zero : i ≡ 0 → get_or d N 0 < 65537 → get_or d N 0 ≡ untwisted N (drop N d) i
@@ -43,20 +41,35 @@ module _ (N i : ℕ) (d : List ℕ) (table : PsiTable N d) (inside : i < N) wher
           ap (λ (y : ℕ). get_or d y 0) {x = 4 * N - i} {y = 3 * N + (N - i)} (omega arith)
           ∙ power_at N d table (N - i) (omega arith)
 
-pub untwist-one-spec : {M : Type 1} → statement M
-untwist-one-spec =
-    tie.close
-    (tie.spec
-    (λ c. omega (arith, N_small _ _ c.before.before.requires.0))
-    (λ c. omega (arith, c.before.before.before.requires.0.long, c.before.before.before.requires.1))
-    (λ c. at_zero _ _ _ c.before.before.before.requires.0 c.before.before.before.requires.1 c.before.if1.true c.before.before.before.requires.2)
-    (λ c. omega (arith, N_small _ _ c.before.before.requires.0, c.before.before.requires.1))
-    (λ c. omega (arith, N_small _ _ c.before.before.requires.0, c.before.before.requires.1))
-    (λ c. omega (arith, c.before.before.before.requires.0.long, c.before.before.before.requires.1))
-    (λ c. omega (arith, N_small _ _ c.before.before.before.requires.0, c.before.before.before.requires.1))
-    (λ c. omega (arith, N_small _ _ c.before.before.before.requires.0, c.before.before.before.requires.1))
-    (λ c. omega (arith, N_small _ _ c.before.before.before.requires.0, c.before.before.before.requires.1))
-    (λ c. omega (arith, c.before.before.before.before.requires.0.long, c.before.before.before.before.requires.1, c.before.before.if1.false))
-    (λ c κs. search rules)
-    (λ c κs. search rules)
-    (λ c. at_other _ _ _ c.before.before.before.before.before.before.requires.0 c.before.before.before.before.before.before.requires.1 c.before.before.before.before.if1.false _ _ c.before.product.ensures.is c.difference.ensures.is))
+pub offset_bounds-cells-size : goal.offset_bounds-cells-size
+offset_bounds-cells-size c = omega (arith, N_small _ _ c.requires.0)
+
+pub bounds-cells-size : goal.bounds-cells-size
+bounds-cells-size c = omega (arith, c.requires.0.long, c.requires.1)
+
+pub returns-then-i-eq0 : goal.returns-then-i-eq0
+returns-then-i-eq0 c = at_zero _ _ _ c.requires.0 c.requires.1 c.if-i-eq0.true c.requires.2
+
+pub overflow_add-size : goal.overflow_add-size
+overflow_add-size c = omega (arith, N_small _ _ c.requires.0, c.requires.1)
+
+pub offset_bounds-cells-size-2 : goal.offset_bounds-cells-size-2
+offset_bounds-cells-size-2 c = omega (arith, N_small _ _ c.requires.0, c.requires.1)
+
+pub bounds-cells-size-2 : goal.bounds-cells-size-2
+bounds-cells-size-2 c = omega (arith, c.requires.0.long, c.requires.1)
+
+pub overflow_mul-size : goal.overflow_mul-size
+overflow_mul-size c = omega (arith, N_small _ _ c.requires.0, c.requires.1)
+
+pub overflow_sub-size : goal.overflow_sub-size
+overflow_sub-size c = omega (arith, N_small _ _ c.requires.0, c.requires.1)
+
+pub offset_bounds-cells-size-3 : goal.offset_bounds-cells-size-3
+offset_bounds-cells-size-3 c = omega (arith, N_small _ _ c.requires.0, c.requires.1)
+
+pub bounds-cells-size-3 : goal.bounds-cells-size-3
+bounds-cells-size-3 c = omega (arith, c.requires.0.long, c.requires.1, c.if-i-eq0.false)
+
+pub returns : goal.returns
+returns c = at_other _ _ _ c.requires.0 c.requires.1 c.if-i-eq0.false _ _ c.product.ensures.is c.difference.ensures.is

@@ -5,31 +5,17 @@ use mathlib.Core.Bool.{cond}
 use mathlib.Core.List.{List, ◌++◌}
 use Prim.Native.Nat.{ℕ, ◌+◌, ◌-◌, ◌*◌, ◌<◌, ◌≤◌}
 use native.Mathlib.Omega.{arith}
-use borrow.Author.Rules.{rules}
 use lib.Dec.{eqb}
 use lib.ListN.{length, get_or, take, drop, set, replicate}
 use Rattle.field.specs.Field.{product}
-use Rattle.field.specs.Points.{root_of, point_of}
+use Rattle.field.specs.Points.{root_of}
 use Rattle.field.specs.Roots.{root}
 use Rattle.field.specs.Size.{size_of}
 use Rattle.field.proofs.Sizes.{size_small}
 use Rattle.decode_missing.specs.Missing.{unmarked}
 use Rattle.decode_missing.proofs.Laying.{laid, laid_none, laid_long, mark_at, place_some, laid_more, laid_all, first_point, next_point}
-use Rattle.decode_missing.proofs.lay_missing.Statement.{statement}
-use Rattle.decode_missing.proofs.lay_missing.Tie as tie
-
--- what is known inside the loop
-record Turn (N : ℕ) (d cells : List ℕ) (turn place j : ℕ) : Type 0 where
-  some : j ≤ N
-  counted : place + length (unmarked N (take N (drop (2 * N) d)) j) ≡ N
-  turns : turn ≡ point_of N j
-  is : cells ≡ laid N d place j
-
-abbrev invariant-loop : tie.invariant-loop
-invariant-loop size cells₀ root marks turn₀ place₀ j₀ cells turn place j = Turn size cells₀ cells turn place j
-
-abbrev decreases-loop : tie.decreases-loop
-decreases-loop size cells₀ root marks turn₀ place₀ j₀ cells turn place j = size - j
+use Rattle.decode_missing.proofs.lay_missing.Invariants.{Turn}
+use Rattle.decode_missing.proofs.lay_missing.Goals as goal
 
 module _ (N : ℕ) (d : List ℕ) (pre : (length d ≡ 4 * N) × (N ≡ size_of N) × (take N d ≡ replicate N 0)) where
   small : N ≤ 65536
@@ -70,26 +56,41 @@ module _ (N : ℕ) (d : List ℕ) (pre : (length d ≡ 4 * N) × (N ≡ size_of 
         let found = laid_all N d place j t.counted (omega (arith, pre.0)) (N - place) h t.some refl in
         (found.0, t.is ∙ found.1)
 
-pub lay-missing-spec : {M : Type 1} → statement M
+pub overflow_mul-marks : goal.overflow_mul-marks
 unfolding root_of
-lay-missing-spec =
-    tie.close
-    (tie.spec
-    invariant-loop
-    decreases-loop
-    (λ c κs. search rules)
-    (λ c κs. search rules)
-    (λ c. omega (arith, small _ _ c.before.before.before.requires))
-    (λ c. begun _ _ c.before.before.before.requires)
-    (λ c. omega (arith, small _ _ c.before.before.before.before.before.before.requires, c.before.loop-test.true))
-    (λ c κs. one _ _ c.before.before.before.before.before.before.requires c.before.before.loop.cells c.before.before.loop.turn c.before.before.loop.place c.before.before.loop.j c.before.before.loop.invariant c.before.loop-test.true)
-    (λ c κs. search rules)
-    (λ c. omega (arith, small _ _ c.before.before.before.before.before.before.before.before.before.before.requires, c.before.before.before.before.before.loop-test.true))
-    (λ c. search rules)
-    (λ c.
-    let l = c.before.before.before.before.before.before.loop in
-    more _ _ c.before.before.before.before.before.before.before.before.before.before.requires l.cells l.turn l.place l.j l.invariant _ _ _ _ c.before.before.before.before.before.loop-test.true
-    (c.before.before.before.before.before.before.before.root.ensures.is ∙ ap root c.before.before.before.before.before.before.before.before.level.ensures.is) c.before.before.before.lay-point.ensures.0 c.before.before.before.lay-point.ensures.1 c.product.ensures.is)
-    (λ c. omega (arith, c.before.loop.invariant.counted))
-    (λ c. long _ _ c.before.before.before.before.before.requires c.before.loop.cells c.before.loop.turn c.before.loop.place c.before.loop.j c.before.loop.invariant)
-    (λ c. all _ _ c.before.before.before.before.before.requires c.before.loop.cells c.before.loop.turn c.before.loop.place c.before.loop.j c.before.loop.invariant c.loop-test.false))
+overflow_mul-marks c = omega (arith, small _ _ c.requires)
+
+pub loop-j-init : goal.loop-j-init
+unfolding root_of
+loop-j-init c = begun _ _ c.requires
+
+pub overflow_add-marks : goal.overflow_add-marks
+unfolding root_of
+overflow_add-marks c = omega (arith, small _ _ c.requires, c.loop-j-test.true)
+
+pub lay_point-place-requires : goal.lay_point-place-requires
+unfolding root_of
+lay_point-place-requires c = one _ _ c.requires c.loop-j.cells c.loop-j.turn c.loop-j.place c.loop-j.j c.loop-j.invariant c.loop-j-test.true
+
+pub overflow_add-j : goal.overflow_add-j
+unfolding root_of
+overflow_add-j c = omega (arith, small _ _ c.requires, c.loop-j-test.true)
+
+pub loop-j-preserved : goal.loop-j-preserved
+unfolding root_of
+loop-j-preserved c =
+    let l = c.loop-j in
+    more _ _ c.requires l.cells l.turn l.place l.j l.invariant _ _ _ _ c.loop-j-test.true
+    (c.root-root.ensures.is ∙ ap root c.level.ensures.is) c.lay_point-place.ensures.place c.lay_point-place.ensures.points c.product-turn.ensures.is
+
+pub overflow_sub-result : goal.overflow_sub-result
+unfolding root_of
+overflow_sub-result c = omega (arith, c.loop-j.invariant.counted)
+
+pub shape_of-cells : goal.shape_of-cells
+unfolding root_of
+shape_of-cells c = long _ _ c.requires c.loop-j.cells c.loop-j.turn c.loop-j.place c.loop-j.j c.loop-j.invariant
+
+pub returns : goal.returns
+unfolding root_of
+returns c = let all = all _ _ c.requires c.loop-j.cells c.loop-j.turn c.loop-j.place c.loop-j.j c.loop-j.invariant c.loop-j-test.false in record { missing = all.0; points = all.1 }

@@ -12,20 +12,8 @@ use Rattle.lists.proofs.Window.{window, window_none, window_store, window_past, 
 use Rattle.decode_between.specs.Foldable.{PsiTable}
 use Rattle.decode_between.proofs.Foldable.{table_kept}
 use Rattle.decode_divide.specs.Quotients.{untwisted}
-use Rattle.decode_divide.proofs.untwist.Statement.{statement}
-use Rattle.decode_divide.proofs.untwist.Tie as tie
-
--- what is known inside the loop
-record Turn (N k : ℕ) (d cells : List ℕ) (i : ℕ) : Type 0 where
-  some : i ≤ k
-  long : length cells ≡ length d
-  is : cells ≡ window 0 i (untwisted N (drop N d)) d
-
-abbrev invariant-loop : tie.invariant-loop
-invariant-loop k size cells₀ i₀ cells i = Turn size k cells₀ cells i
-
-abbrev decreases-loop : tie.decreases-loop
-decreases-loop k size cells₀ i₀ cells i = k - i
+use Rattle.decode_divide.proofs.untwist.Invariants.{Turn}
+use Rattle.decode_divide.proofs.untwist.Goals as goal
 
 module _ (N k : ℕ) (d : List ℕ) (pre : PsiTable N d × (k ≤ N) × (get_or d N 0 < 65537)) where
   f : ℕ → ℕ
@@ -58,18 +46,20 @@ module _ (N k : ℕ) (d : List ℕ) (pre : PsiTable N d × (k ≤ N) × (get_or 
         ∙ ap (λ (m : ℕ). tab i (untwisted N (drop N d)) ++ drop m d) (zero-add i)
         ∙ ap (λ (m : ℕ). tab m (untwisted N (drop N d)) ++ drop m d) {x = i} {y = k} (omega (arith, t.some))
 
-pub untwist-spec : {M : Type 1} → statement M
-untwist-spec =
-    tie.close
-    (tie.spec
-    invariant-loop
-    decreases-loop
-    (λ c. record { some = search rules; long = search rules; is = window_none _ _ _ })
-    (λ c κs. one _ _ _ c.before.before.before.before.requires c.before.before.loop.cells c.before.before.loop.i c.before.before.loop.invariant c.before.loop-test.true)
-    (λ c. search rules)
-    (λ c. omega (arith, c.before.before.before.loop.invariant.long, c.before.before.before.before.before.requires.0.long, c.before.before.before.before.before.requires.1, c.before.before.loop-test.true))
-    (λ c. search rules)
-    (λ c. search rules)
-    (λ c. more _ _ _ c.before.before.before.before.before.requires c.before.before.before.loop.cells c.before.before.before.loop.i c.before.before.before.loop.invariant _ c.before.before.loop-test.true c.untwist-one.ensures)
-    (λ c. c.before.loop.invariant.long)
-    (λ c. all _ _ _ c.before.before.before.requires c.before.loop.cells c.before.loop.i c.before.loop.invariant c.loop-test.false))
+pub loop-i-init : goal.loop-i-init
+loop-i-init c = record { some = search rules; long = search rules; is = window_none _ _ _ }
+
+pub untwist_one-requires : goal.untwist_one-requires
+untwist_one-requires c = one _ _ _ c.requires c.loop-i.cells c.loop-i.i c.loop-i.invariant c.loop-i-test.true
+
+pub bounds-cells-i : goal.bounds-cells-i
+bounds-cells-i c = omega (arith, c.loop-i.invariant.long, c.requires.0.long, c.requires.1, c.loop-i-test.true)
+
+pub loop-i-preserved : goal.loop-i-preserved
+loop-i-preserved c = more _ _ _ c.requires c.loop-i.cells c.loop-i.i c.loop-i.invariant _ c.loop-i-test.true c.untwist_one.ensures
+
+pub shape_of-cells : goal.shape_of-cells
+shape_of-cells c = c.loop-i.invariant.long
+
+pub returns : goal.returns
+returns c = all _ _ _ c.requires c.loop-i.cells c.loop-i.i c.loop-i.invariant c.loop-i-test.false

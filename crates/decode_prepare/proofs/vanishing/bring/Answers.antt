@@ -9,20 +9,8 @@ use borrow.Author.Rules.{rules}
 use lib.ListN.{length, get_or, drop, set}
 use Rattle.lists.specs.Tab.{tab}
 use Rattle.lists.proofs.Window.{window, window_none, window_store, window_past, window_length}
-use Rattle.decode_prepare.proofs.vanishing.bring.Statement.{statement}
-use Rattle.decode_prepare.proofs.vanishing.bring.Tie as tie
-
--- what is known inside the loop
-record Turn (from count : ℕ) (d cells : List ℕ) (i : ℕ) : Type 0 where
-  some : i ≤ count
-  long : length cells ≡ length d
-  is : cells ≡ window 0 i (λ j. get_or d (from + j) 0) d
-
-abbrev invariant-loop : tie.invariant-loop
-invariant-loop from count cells₀ i₀ cells i = Turn from count cells₀ cells i
-
-abbrev decreases-loop : tie.decreases-loop
-decreases-loop from count cells₀ i₀ cells i = count - i
+use Rattle.decode_prepare.proofs.vanishing.bring.Invariants.{Turn}
+use Rattle.decode_prepare.proofs.vanishing.bring.Goals as goal
 
 module _ (from count : ℕ) (d : List ℕ) (enough : from + count ≤ length d) (cells : List ℕ) (i : ℕ) (t : Turn from count d cells i) where
   more : (v : ℕ) → i < count → v ≡ get_or cells (from + i) 0 → Turn from count d (set cells i v) (i + 1)
@@ -42,20 +30,14 @@ module _ (from count : ℕ) (d : List ℕ) (enough : from + count ≤ length d) 
       ∙ ap (λ (m : ℕ). tab i (λ j. get_or d (from + j) 0) ++ drop m d) (zero-add i)
       ∙ ap (λ (m : ℕ). tab m (λ j. get_or d (from + j) 0) ++ drop m d) {x = i} {y = count} (omega (arith, t.some))
 
-pub bring-spec : {M : Type 1} → statement M
-bring-spec =
-    tie.close
-    (tie.spec
-    invariant-loop
-    decreases-loop
-    (λ c. record { some = search rules; long = search rules; is = window_none _ _ _ })
-    (λ c. search rules)
-    (λ c. search rules)
-    (λ c. search rules)
-    (λ c. search rules)
-    (λ c. search rules)
-    (λ c. search rules)
-    (λ c. search rules)
-    (λ c. more _ _ _ c.before.before.before.requires c.before.before.loop.cells c.before.before.loop.i c.before.before.loop.invariant _ c.before.loop-test.true refl)
-    (λ c. c.before.loop.invariant.long)
-    (λ c. all _ _ _ c.before.before.requires c.before.loop.cells c.before.loop.i c.before.loop.invariant c.loop-test.false))
+pub loop-i-init : goal.loop-i-init
+loop-i-init c = record { some = search rules; long = search rules; is = window_none _ _ _ }
+
+pub loop-i-preserved : goal.loop-i-preserved
+loop-i-preserved c = more _ _ _ c.requires c.loop-i.cells c.loop-i.i c.loop-i.invariant _ c.loop-i-test.true refl
+
+pub shape_of-cells : goal.shape_of-cells
+shape_of-cells c = c.loop-i.invariant.long
+
+pub returns : goal.returns
+returns c = all _ _ _ c.requires c.loop-i.cells c.loop-i.i c.loop-i.invariant c.loop-i-test.false

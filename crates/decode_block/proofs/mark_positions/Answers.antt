@@ -5,25 +5,11 @@ use mathlib.Core.List.{List}
 use Prim.Native.Nat.{ℕ, ◌+◌, ◌-◌, ◌<◌, ◌≤◌}
 use native.Mathlib.Decide.{ℕ_discrete}
 use native.Mathlib.Omega.{arith}
-use borrow.Author.Rules.{rules}
 use lib.ListN.{length, get_or, set, replicate, length-set, length-replicate, get_or-replicate}
 use lib.Seq.{get_or-set_same, get_or-set_other}
 use Rattle.decode_missing.specs.Marks.{Marks}
-use Rattle.decode_block.proofs.mark_positions.Statement.{statement}
-use Rattle.decode_block.proofs.mark_positions.Tie as tie
-
--- what is known inside the loop
-record Turn (N : ℕ) (positions marks : List ℕ) (t : ℕ) : Type 0 where
-  some : t ≤ length positions
-  long : length marks ≡ N
-  held : (i : ℕ) → i < t → ¬ (get_or marks (get_or positions i 0) 0 ≡ 0)
-  only : (j : ℕ) → j < N → ¬ (get_or marks j 0 ≡ 0) → (i : ℕ) × (i < t) × (get_or positions i 0 ≡ j)
-
-abbrev invariant-loop : tie.invariant-loop
-invariant-loop positions marks₀ t₀ marks t = Turn (length marks₀) positions marks t
-
-abbrev decreases-loop : tie.decreases-loop
-decreases-loop positions marks₀ t₀ marks t = length positions - t
+use Rattle.decode_block.proofs.mark_positions.Invariants.{Turn}
+use Rattle.decode_block.proofs.mark_positions.Goals as goal
 
 begun : (N : ℕ) (positions marks : List ℕ) → marks ≡ replicate N 0 → Turn (length marks) positions marks 0
 begun N positions marks is =
@@ -67,21 +53,20 @@ module _ (N : ℕ) (positions marks : List ℕ) (t : ℕ) (turn : Turn N positio
         only = λ j k marked. let found = turn.only j k marked in (found.0, omega (arith, found.1, turn.some), found.2);
       }
 
-pub mark-positions-spec : {M : Type 1} → statement M
-mark-positions-spec =
-    tie.close
-    (tie.spec
-    invariant-loop
-    decreases-loop
-    (λ c κs. search rules)
-    (λ c. begun (length c.before.before.before.before.before.before.args.marks.now) _ _ c.before.before.clear.ensures)
-    (λ c. search rules)
-    (λ c. search rules)
-    (λ c κs. search rules)
-    (λ c. omega (arith, c.before.before.before.before.before.before.before.before.before.before.requires c.before.before.before.loop.t c.before.before.loop-test.true, c.wide.ensures, c.before.before.before.before.before.before.clear.auto.0))
-    (λ c. omega (arith, c.before.before.before.before.before.before.before.before.before.before.requires c.before.before.before.loop.t c.before.before.loop-test.true, c.wide.ensures, c.before.before.before.before.before.before.clear.auto.0, c.before.before.before.loop.invariant.long))
-    (λ c. search rules)
-    (λ c. search rules)
-    (λ c. more _ _ c.before.before.before.loop.marks c.before.before.before.loop.t c.before.before.before.loop.invariant _ c.before.before.loop-test.true c.wide.ensures (omega (arith, c.before.before.before.before.before.before.before.before.before.before.requires c.before.before.before.loop.t c.before.before.loop-test.true, c.wide.ensures, c.before.before.before.before.before.before.clear.auto.0)))
-    (λ c. c.before.loop.invariant.long ∙ c.before.before.before.before.clear.auto.0)
-    (λ c. subst (λ (n : ℕ). Marks n c.before.before.before.before.before.before.before.before.args.positions.now c.before.loop.marks) c.before.before.before.before.clear.auto.0 (all _ _ c.before.loop.marks c.before.loop.t c.before.loop.invariant c.loop-test.false)))
+pub loop-t-init : goal.loop-t-init
+loop-t-init c = begun (length c.args.marks.now) _ _ c.clear.ensures
+
+pub offset_bounds-marks-wide : goal.offset_bounds-marks-wide
+offset_bounds-marks-wide c = omega (arith, c.requires c.loop-t.t c.loop-t-test.true, c.wide.ensures, c.clear.auto.cells)
+
+pub bounds-marks-wide : goal.bounds-marks-wide
+bounds-marks-wide c = omega (arith, c.requires c.loop-t.t c.loop-t-test.true, c.wide.ensures, c.clear.auto.cells, c.loop-t.invariant.long)
+
+pub loop-t-preserved : goal.loop-t-preserved
+loop-t-preserved c = more _ _ c.loop-t.marks c.loop-t.t c.loop-t.invariant _ c.loop-t-test.true c.wide.ensures (omega (arith, c.requires c.loop-t.t c.loop-t-test.true, c.wide.ensures, c.clear.auto.cells))
+
+pub shape_of-marks : goal.shape_of-marks
+shape_of-marks c = c.loop-t.invariant.long ∙ c.clear.auto.cells
+
+pub returns : goal.returns
+returns c = subst (λ (n : ℕ). Marks n c.args.positions.now c.loop-t.marks) c.clear.auto.cells (all _ _ c.loop-t.marks c.loop-t.t c.loop-t.invariant c.loop-t-test.false)

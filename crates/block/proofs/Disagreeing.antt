@@ -2,7 +2,7 @@
 -- Assumes nothing.
 use mathlib.Core.Path.{◌≡◌, refl}
 use mathlib.Core.Bool.{Bool, true, false, not, ◌||◌}
-use mathlib.Core.List.{List, []}
+use mathlib.Core.List.{List, [], ◌∷◌}
 use mathlib.Core.Option.{Option, some, none}
 use Prim.Native.Nat.{ℕ}
 use borrow.Author.Tests.{eqb-false}
@@ -48,3 +48,4 @@ pub disagree_none : (a : Answer) (found : Option (List ℕ)) (n : ℕ) (out work
 disagree_none (refusal number place) found n out work (other differs) e = absurd (eqb-false number 8 differs (cc))
 disagree_none (the_result []) none n out work passing e = (refl, refl)
 disagree_none (the_result []) (some s) n out work passing e = absurd (result_no_refusal e)
+disagree_none (the_result (v ∷ vs)) found n out work before e = elim before [ ]

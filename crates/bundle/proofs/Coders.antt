@@ -78,8 +78,12 @@ zeros n = replicate n 0
 room : (n : ℕ) → n ≤ length (zeros n)
 room n = le_of_eq (sym (length-replicate n 0))
 
+one_small : (x : ℕ) → x < 2 → (i : ℕ) → i < length (x ∷ []) → get_or (x ∷ []) i 0 < 65537
+one_small x h zero l = omega arith
+one_small x h (suc j) l = absurd (omega arith)
+
 one_symbol : (x : ℕ) → x < 2 → IsMessage 1 (x ∷ [])
-one_symbol x h = record { long = refl; symbols = λ i. elim i [ zero ↦ λ l. omega arith | suc j ↦ λ l. absurd (omega arith) ] }
+one_symbol x h = record { long = refl; symbols = one_small x h }
 
 word_of_lem : (x : ℕ) → x < 2 → code_word 1 (x ∷ []) ≡ x ∷ []
 unfolding code_word tab symbol_of polynomial_of value

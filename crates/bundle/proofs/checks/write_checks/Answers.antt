@@ -4,7 +4,6 @@ use mathlib.Core.Path.{◌≡◌, sym, ◌∙◌}
 use mathlib.Core.Bool.{Bool, true, false, ◌||◌}
 use mathlib.Core.List.{[]}
 use Prim.Native.Nat.{ℕ}
-use borrow.Author.Rules.{rules}
 use lib.Dec.{ltb}
 use Rattle.answers.specs.Refusals.{the_result, refused}
 use Rattle.answers.specs.declared.refusal.Refusal.TheVariants.{Shape, Room}
@@ -14,8 +13,7 @@ use Rattle.bundle_layout.specs.Shape.{bad_bundle_shape}
 use Rattle.bundle_layout.proofs.Passing.{countable, measurable}
 use Rattle.bundle.specs.Checks.{write_checks}
 use Rattle.bundle_layout.specs.Rooms.{write_out, bundle_work}
-use Rattle.bundle.proofs.checks.write_checks.Statement.{statement}
-use Rattle.bundle.proofs.checks.write_checks.Tie as tie
+use Rattle.bundle.proofs.checks.write_checks.Goals as goal
 
 -- bad is what the test of the shape gave
 module _ (k n L : ℕ) (bad : Bool) (judged : bad ≡ bad_bundle_shape k n L) (good : bad ≡ false) where
@@ -34,20 +32,26 @@ module _ (k n L : ℕ) (bad : Bool) (judged : bad ≡ bad_bundle_shape k n L) (g
       unfolding write_checks
       past_room e = simp (sym judged ∙ good, measured ∙ e)
 
-pub write-checks-spec : {M : Type 1} → statement M
+pub returns-then-bad_bundle_shape : goal.returns-then-bad_bundle_shape
 unfolding write_checks
-write-checks-spec =
-    tie.close
-    (tie.spec
-    (λ c κs. search rules)
-    (λ c. stops Shape _ (sym c.before.bad-bundle-shape.ensures ∙ c.if1.true))
-    (λ c κs. countable _ _ _ _ c.before.bad-bundle-shape.ensures c.if1.false)
-    (λ c κs. measurable _ _ _ _ c.before.before.bad-bundle-shape.ensures c.before.if1.false _ c.blocks2.ensures)
-    (λ c κs. search rules)
-    (λ c κs. search rules)
-    (λ c.
-    at_room _ _ _ _ c.before.before.before.before.before.before.bad-bundle-shape.ensures c.before.before.before.before.before.if1.false _ c.before.before.before.before.blocks2.ensures _ _ _ _ _ c.before.before.before.write-out.ensures c.before.before.bundle-work.ensures c.before.too_short.ensures
-    c.if2.true)
-    (λ c.
-    past_room _ _ _ _ c.before.before.before.before.before.before.bad-bundle-shape.ensures c.before.before.before.before.before.if1.false _ c.before.before.before.before.blocks2.ensures _ _ _ _ _ c.before.before.before.write-out.ensures c.before.before.bundle-work.ensures c.before.too_short.ensures
-    c.if2.false))
+returns-then-bad_bundle_shape c = stops Shape _ (sym c.bad_bundle_shape.ensures ∙ c.if-bad_bundle_shape.true)
+
+pub blocks-requires : goal.blocks-requires
+unfolding write_checks
+blocks-requires c = countable _ _ _ _ c.bad_bundle_shape.ensures c.if-bad_bundle_shape.false
+
+pub write_out-requires : goal.write_out-requires
+unfolding write_checks
+write_out-requires c = measurable _ _ _ _ c.bad_bundle_shape.ensures c.if-bad_bundle_shape.false _ c.blocks-2.ensures
+
+pub returns-then-too_short : goal.returns-then-too_short
+unfolding write_checks
+returns-then-too_short c =
+    at_room _ _ _ _ c.bad_bundle_shape.ensures c.if-bad_bundle_shape.false _ c.blocks-2.ensures _ _ _ _ _ c.write_out.ensures c.bundle_work.ensures c.too_short.ensures
+    c.if-too_short.true
+
+pub returns : goal.returns
+unfolding write_checks
+returns c =
+    past_room _ _ _ _ c.bad_bundle_shape.ensures c.if-bad_bundle_shape.false _ c.blocks-2.ensures _ _ _ _ _ c.write_out.ensures c.bundle_work.ensures c.too_short.ensures
+    c.if-too_short.false

@@ -96,12 +96,16 @@ code_shape = refl
 encodes : (x : ℕ) → x < 2 → Encodes 1 1 (x ∷ []) (x ∷ [])
 encodes x h = subst (Encodes 1 1 (x ∷ [])) (word_of_lem x h) (encodes_word 1 1 (x ∷ []) code_shape (one_symbol x h))
 
+inside_one : (i : ℕ) → i < length {A = ℕ} (0 ∷ []) → get_or {A = ℕ} (0 ∷ []) i 0 < 1
+inside_one zero l = lit< tt
+inside_one (suc j) l = absurd (omega arith)
+
 decodes : (x : ℕ) → x < 2 → Decodes 1 1 (0 ∷ []) (x ∷ []) (x ∷ [])
 unfolding tab
 decodes x h =
     subst (λ (word : List ℕ). Decodes 1 1 (0 ∷ []) (get_or word 0 0 ∷ []) (x ∷ [])) (word_of_lem x h)
     (encode_decode 1 1 (x ∷ []) (0 ∷ []) code_shape (one_symbol x h) (lit≤ tt)
-    (λ i. elim i [ zero ↦ λ l. lit< tt | suc j ↦ λ l. absurd (omega arith) ]) (λ i j l m. absurd (omega arith)))
+    inside_one (λ i j l m. absurd (omega arith)))
 
 -- four bytes, two blocks of one word
 file : ℕ → List ℕ

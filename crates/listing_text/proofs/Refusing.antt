@@ -120,6 +120,7 @@ unfolding alone
 lone_alone number (inl e) = ap alone e
 lone_alone number (inr (inl e)) = ap alone e
 lone_alone number (inr (inr (inl e))) = ap alone e
+lone_alone number (inr (inr (inr nothing))) = elim nothing [ ]
 
 following_alone : (number : ℕ) → OneOf number following → alone number ≡ false
 unfolding alone
@@ -127,6 +128,7 @@ following_alone number (inl e) = ap alone e
 following_alone number (inr (inl e)) = ap alone e
 following_alone number (inr (inr (inl e))) = ap alone e
 following_alone number (inr (inr (inr (inl e)))) = ap alone e
+following_alone number (inr (inr (inr (inr nothing)))) = elim nothing [ ]
 
 pub listed_after : ListedAfter
 unfolding prints_alone

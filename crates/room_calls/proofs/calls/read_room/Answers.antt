@@ -3,7 +3,6 @@
 use mathlib.Core.Path.{◌≡◌}
 use mathlib.Core.List.{List, [], ◌∷◌}
 use Prim.Native.Nat.{ℕ}
-use borrow.Author.Rules.{rules}
 use Rattle.answers.specs.Refusals.{the_result, refused}
 use Rattle.answers.specs.declared.refusal.Refusal.{Refusal}
 use Rattle.answers.proofs.Leaves.{told_done, told_refused}
@@ -12,8 +11,7 @@ use Rattle.bundle_layout.specs.Layout.{layout_checks}
 use Rattle.bundle_layout.specs.Rooms.{bundle_work}
 use Rattle.bundle_layout.proofs.Passing.{header_inside}
 use Rattle.room_calls.specs.Rooms.{read_room_answer}
-use Rattle.room_calls.proofs.calls.read_room.Statement.{statement}
-use Rattle.room_calls.proofs.calls.read_room.Tie as tie
+use Rattle.room_calls.proofs.calls.read_room.Goals as goal
 
 module _ (s : List ℕ) where
   refuses : (x : Refusal) → layout_checks s ≡ refused x → refused x ≡ read_room_answer s
@@ -26,22 +24,19 @@ module _ (s : List ℕ) where
   unfolding read_room_answer
   answers L n room good first second is = simp (good, first, is, second)
 
-pub read-room-spec : {M : Type 1} → statement M
-read-room-spec =
-    tie.close
-    (tie.spec
-    (λ c κs. search rules)
-    (λ c. search rules)
-    (λ c κs. header_inside _ (told_done _ _ c.before.before.layout-checks.ensures c.enum_told.given.1))
-    (λ c κs. header_inside _ (told_done _ _ c.before.before.before.layout-checks.ensures c.before.enum_told.given.1))
-    (λ c κs. search rules)
-    (λ c. search rules)
-    (λ c.
-    let told = c.before.before.before in
-    answers told.before.before.before.before.args.bundle.now _ _ _
-    (told_done _ _ told.before.before.layout-checks.ensures told.enum_told.given.1)
-    c.before.before.length-in.ensures.0 c.before.n-in.ensures.0 c.bundle-work.ensures)
-    (λ c.
-    let known = c.before in
-    refuses known.before.before.before.before.args.bundle.now known.refusal.given.0.0
-    (told_refused _ _ _ known.before.before.layout-checks.ensures known.refusal.given.1)))
+pub length_in-requires : goal.length_in-requires
+length_in-requires c = header_inside _ (told_done _ _ c.layout_checks.ensures c.in-Done.is)
+
+pub n_in-requires : goal.n_in-requires
+n_in-requires c = header_inside _ (told_done _ _ c.layout_checks.ensures c.in-Done.is)
+
+pub returns-in-Done : goal.returns-in-Done
+returns-in-Done c =
+    answers c.args.bundle.now _ _ _
+    (told_done _ _ c.layout_checks.ensures c.in-Done.is)
+    c.length_in.ensures.0 c.n_in.ensures.0 c.bundle_work.ensures
+
+pub returns-in-Refused : goal.returns-in-Refused
+returns-in-Refused c =
+    refuses c.args.bundle.now c.in-Refused.refusal
+    (told_refused _ _ _ c.layout_checks.ensures c.in-Refused.is)

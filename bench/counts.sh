@@ -62,8 +62,7 @@ transform_table() {
         find_cost inverse "$size" "$size" all 0
         back=$cost
         cost=0
-        # the emulator does not tell functions apart
-        [ "$(uname -m)" != x86_64 ] || find_by_table "$size"
+        find_by_table "$size"
         awk -v n="$size" -v b="$butterflies" -v t="$there" -v i="$back" -v h="$cost" \
             'BEGIN { printf "%6d %12d %12.1f %12d %12.1f %12s %12s\n", n, t, t / b, i, i / b, h ? h : "-", h ? sprintf("%.1f", h / b) : "-" }'
     done

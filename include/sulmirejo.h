@@ -3,9 +3,9 @@
  * A file, a page for example, becomes a bundle of n shadows (sulmirejo_write), and any k of them bring it back (sulmirejo_read): n - k may
  * be lost. Below that, for a format of your own, k numbers become n (sulmirejo_encode), any k of which bring them back (sulmirejo_decode).
  *
- * This file is the manual. The functions are in libsulmirejo.a, for x86-64 Linux: `rt staticlib sulmirejo` proves the library and writes it
- * to target/staticlib/, and `cc -I include my_shell.c target/staticlib/libsulmirejo.a` links a program with it. Each function is proved to
- * do what is written here, for every argument that the types allow, as long as the caller keeps four rules that no function can test:
+ * This file is the manual. The functions are in libsulmirejo.a, for x86-64 Linux: `scripts/prove sulmirejo` proves the library and writes
+ * it to target/staticlib/, and `cc -I include my_shell.c target/staticlib/libsulmirejo.a` links a program with it. Each function is proved
+ * to do what is written here, for every argument that the types allow, as long as the caller keeps four rules that no function can test:
  *   - a pointer is not null, not even where its count is 0 (what calloc gives for 0 bytes, or data() of an empty vector, may be null), is
  *   aligned for its type, and points to as many elements as the count behind it says, to one if there is none;
  *   - those elements may be read and, where the pointer is not to const, written;

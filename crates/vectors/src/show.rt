@@ -1,67 +1,50 @@
 // One line for each case.
 use answers::Refusal;
 use field_calls::{PointAnswer, SymbolAnswer};
-use libc::STDOUT_FILENO;
+use std::io;
 
-fn text(bytes: &[u8]) {
-    io::write_all(STDOUT_FILENO, bytes);
+fn refusal(rt: &impl Print, refused: Refusal) -> io::Result<()> {
+    let number = answers::number(refused);
+    let place = answers::place(refused);
+    println!(rt; "REFUSED {number} {place}")
 }
 
-fn number(n: u64) {
-    io::print_decimal(STDOUT_FILENO, n);
-}
-
-fn refusal(refused: Refusal) {
-    text(b"REFUSED ");
-    number(answers::number(refused) as u64);
-    text(b" ");
-    number(answers::place(refused) as u64);
-}
-
-fn symbol(answer: SymbolAnswer) {
+fn symbol(rt: &impl Print, answer: SymbolAnswer) -> io::Result<()> {
     match answer {
-        SymbolAnswer::Symbol(value) => number(value as u64),
-        SymbolAnswer::Refused(refused) => refusal(refused),
+        SymbolAnswer::Symbol(value) => println!(rt; "{value}"),
+        SymbolAnswer::Refused(refused) => refusal(rt, refused),
     }
 }
 
 // A line `a + b = answer`.
-pub fn operation(a: u32, sign: &[u8], b: u32, answer: SymbolAnswer) {
-    number(a as u64);
-    text(sign);
-    number(b as u64);
-    text(b" = ");
-    symbol(answer);
-    text(b"\n");
+pub fn operation(
+    rt: &impl Print,
+    a: u32,
+    sign: &str,
+    b: u32,
+    answer: SymbolAnswer,
+) -> io::Result<()> {
+    print!(rt; "{a} {sign} {b} = ")?;
+    symbol(rt, answer)
 }
 
-pub fn root(level: usize, root: u32, square: SymbolAnswer) {
-    text(b"root ");
-    number(level as u64);
-    text(b" = ");
-    number(root as u64);
-    text(b", its square = ");
-    symbol(square);
-    text(b"\n");
+pub fn root(rt: &impl Print, level: usize, root: u32, square: SymbolAnswer) -> io::Result<()> {
+    print!(rt; "root {level} = {root}, its square = ")?;
+    symbol(rt, square)
 }
 
-pub fn inverse(x: u32, answer: SymbolAnswer) {
-    text(b"inverse of ");
-    number(x as u64);
-    text(b" = ");
-    symbol(answer);
-    text(b"\n");
+pub fn inverse(rt: &impl Print, x: u32, answer: SymbolAnswer) -> io::Result<()> {
+    print!(rt; "inverse of {x} = ")?;
+    symbol(rt, answer)
 }
 
-pub fn point(n: usize, i: usize, answer: PointAnswer) {
-    text(b"n ");
-    number(n as u64);
-    text(b", point of position ");
-    number(i as u64);
-    text(b" = ");
+pub fn point(rt: &impl Print, n: usize, i: usize, answer: PointAnswer) -> io::Result<()> {
+    print!(rt; "n {n}, point of position {i} = ")?;
     match answer {
-        PointAnswer::Point(point) => number(point.0 as u64),
-        PointAnswer::Refused(refused) => refusal(refused),
+        PointAnswer::Point(point) => {
+            let value = point.0;
+            println!(rt; "{value}")
+        }
+        PointAnswer::Refused(refused) => refusal(rt, refused),
     }
-    text(b"\n");
 }

@@ -7,7 +7,6 @@ use native.Mathlib.Omega.{arith}
 use lib.Pow.{pow-add}
 use Rattle.field.specs.Congruence.{◌≈◌}
 use Rattle.field.specs.Points.{root_of}
-use Rattle.field.specs.Roots.{root}
 use Rattle.field.specs.Size.{level_of}
 use Rattle.field.proofs.Congruence.{≈-of, ≈-sym, ≈-refl, ◌∘≈◌, ◌+≈◌, ◌·≈◌, pow-≈, comb}
 use Rattle.field.proofs.Powers.{mul_pow, full_power, one_pow, pow_times}

@@ -12,7 +12,6 @@ use lib.Pow.{pow_pos, pow_mono}
 use Rattle.field.specs.Congruence.{◌≈◌}
 use Rattle.field.specs.Field.{product, inverse}
 use Rattle.field.specs.Points.{root_of, point_of}
-use Rattle.field.specs.Roots.{root}
 use Rattle.field.specs.Size.{level_of}
 use Rattle.field.specs.Symbol.{Symbols}
 use Rattle.field.proofs.Congruence.{≈-refl, ≈-of, ≈-sym, ◌∘≈◌, ◌+≈◌, ◌·≈◌, mul-≈, comb}

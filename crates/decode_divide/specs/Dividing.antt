@@ -1,7 +1,6 @@
 -- The values h at the N points are those of a polynomial times the product M of X - z over the missing points z: which polynomial that is.
-use Rattle.std.specs.Prelude.{◌≡◌, Bool, true, false, List, ℕ, ◌+◌, ◌-◌, ◌*◌, ◌<◌, ◌≤◌, length, get_or}
+use Rattle.std.specs.Prelude.{◌≡◌, Bool, true, false, List, ℕ, ◌+◌, ◌*◌, ◌<◌, ◌≤◌, length, get_or}
 use Rattle.field.specs.Congruence.{◌≈◌}
-use Rattle.field.specs.Field.{product}
 use Rattle.field.specs.Points.{point_of}
 use Rattle.field.specs.Symbol.{Symbols}
 use Rattle.poly.specs.Distinct.{Distinct}

@@ -11,7 +11,6 @@ use native.Mathlib.Omega.{arith}
 use lib.ListN.{length, get_or, length-append}
 use lib.Pow.{pow_pos}
 use Rattle.field.specs.Congruence.{◌≈◌}
-use Rattle.field.specs.Field.{product}
 use Rattle.field.specs.Points.{point_of}
 use Rattle.field.specs.Size.{level_of, size_of}
 use Rattle.field.proofs.Congruence.{≈-refl, ≈-of, ≈-sym, ◌∘≈◌, ◌·≈◌, mul-≈, mod-≈, comb}

@@ -7,7 +7,6 @@ use Prim.Native.Nat.{ℕ, ◌+◌, ◌*◌, ◌^◌, ◌<◌, ◌≤◌}
 use native.Mathlib.Omega.{arith}
 use lib.ListN.{length, take, length-append}
 use lib.Seq.{length-take-le}
-use Rattle.field.specs.Congruence.{◌≈◌}
 use Rattle.field.proofs.Congruence.{≈-of, ◌∘≈◌, reduced}
 use Rattle.poly.specs.Distinct.{Distinct}
 use Rattle.lists.specs.Every.{Every}

@@ -5,7 +5,6 @@ use mathlib.Core.List.{List}
 use Prim.Native.Nat.{ℕ, zero, suc, ◌^◌, ◌≤◌}
 use native.Mathlib.Omega.{arith}
 use lib.ListN.{length, get_or}
-use Rattle.field.specs.Congruence.{◌≈◌}
 use Rattle.field.specs.Field.{product, inverse}
 use Rattle.field.specs.Points.{root_of}
 use Rattle.field.specs.Roots.{root}

@@ -1,7 +1,5 @@
 -- `bundle_first_pass::store_plain` meets its contract: the bodies passed have the block, the others those before it, if no symbol overflows.
 -- Assumes nothing.
-use mathlib.Core.Path.{◌≡◌}
-use Prim.Native.Nat.{◌-◌, ◌<◌, ◌≤◌}
 use native.Mathlib.Omega.{arith}
 use borrow.Author.Rules.{rules}
 use Rattle.limits.specs.Shape.{longest}
@@ -71,8 +69,7 @@ loop-i-preserved c =
     let file = c.args.file.now in
     let before = c.requires.begun in
     let blocks = c.blocks-blocks.ensures in
-    let inside = c.loop-i-test.true in
-    (
+    let inside = c.loop-i-test.true in (
       search rules,
       at_next _ _ file before.0 l.i inside l.at _ l.invariant.1 blocks _ c.body_size-size.ensures,
       search rules,

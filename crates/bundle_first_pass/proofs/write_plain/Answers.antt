@@ -1,7 +1,7 @@
 -- `bundle_first_pass::write_plain` meets its contract: the blocks passed are counted, and in the bodies if no symbol overflows.
 -- Assumes nothing.
 use mathlib.Core.Path.{◌≡◌, subst, sym}
-use Prim.Native.Nat.{ℕ, ◌-◌, ◌≤◌}
+use Prim.Native.Nat.{ℕ}
 use native.Mathlib.Numerals.{add-one}
 use native.Mathlib.Omega.{arith}
 use borrow.Author.Rules.{rules}
@@ -28,15 +28,14 @@ clear_counts-requires c = (n_fits _ c.args.n _ c.requires.0, c.requires.2)
 
 pub loop-b-init : goal.loop-b-init
 unfolding longest longest_file
-loop-b-init c =
-    (
-      search rules,
-      search rules,
-      search rules,
-      plainly_none _ _ _ _,
-      plain_none _ _ _ c.args.out.now c.requires.1,
-      counted_none c.args.k c.args.n c.args.file.now c.clear_counts.new.cells (omega (arith, c.clear_counts.auto.cells)) c.clear_counts.ensures,
-    )
+loop-b-init c = (
+  search rules,
+  search rules,
+  search rules,
+  plainly_none _ _ _ _,
+  plain_none _ _ _ c.args.out.now c.requires.1,
+  counted_none c.args.k c.args.n c.args.file.now c.clear_counts.new.cells (omega (arith, c.clear_counts.auto.cells)) c.clear_counts.ensures,
+)
 
 pub pass_block-requires : goal.pass_block-requires
 unfolding longest longest_file
@@ -48,8 +47,7 @@ loop-b-preserved c =
     let l = c.loop-b in
     let k = c.args.k in
     let n = c.args.n in
-    let file = c.args.file.now in
-    (
+    let file = c.args.file.now in (
       search rules,
       search rules,
       search rules,

@@ -1,7 +1,7 @@
 -- `bundle_front::write_table` meets its contract: the entries passed stand, and the next body begins where the last one ends.
 -- Assumes nothing.
 use mathlib.Core.Path.{◌≡◌, sym, ap, ◌∙◌}
-use Prim.Native.Nat.{◌+◌, ◌-◌, ◌≤◌}
+use Prim.Native.Nat.{◌+◌, ◌≤◌}
 use native.Mathlib.Omega.{arith}
 use borrow.Author.Rules.{rules}
 use lib.ListN.{length}
@@ -45,14 +45,13 @@ overflow_add-at c = omega (arith, (limits _ _ _ c.requires.0).long)
 
 pub loop-i-init : goal.loop-i-init
 unfolding longest longest_file first_body entry_at header_size entry_size
-loop-i-init c =
-    (
-      search rules,
-      omega (arith, body_first c.args.k c.args.n c.args.file.now),
-      search rules,
-      onward_none _ _,
-      λ p g l. absurd (omega arith),
-    )
+loop-i-init c = (
+  search rules,
+  omega (arith, body_first c.args.k c.args.n c.args.file.now),
+  search rules,
+  onward_none _ _,
+  λ p g l. absurd (omega arith),
+)
 
 pub overflow_add-size : goal.overflow_add-size
 unfolding longest longest_file first_body entry_at header_size entry_size
@@ -81,11 +80,10 @@ put_entry-requires c =
 
 pub body_size-at-requires : goal.body_size-at-requires
 unfolding longest longest_file first_body entry_at header_size entry_size
-body_size-at-requires c =
-    (
-      omega (arith, c.blocks-blocks.ensures, (limits _ _ _ c.requires.0).blocks),
-      count_low _ _ c.args.file.now c.requires.0 c.loop-i.i c.loop-i-test.true _ (counted (goal.at.body_size-at-requires c).After-wide-count),
-    )
+body_size-at-requires c = (
+  omega (arith, c.blocks-blocks.ensures, (limits _ _ _ c.requires.0).blocks),
+  count_low _ _ c.args.file.now c.requires.0 c.loop-i.i c.loop-i-test.true _ (counted (goal.at.body_size-at-requires c).After-wide-count),
+)
 
 pub overflow_add-at-in-loop-i : goal.overflow_add-at-in-loop-i
 unfolding longest longest_file first_body entry_at header_size entry_size
@@ -115,6 +113,10 @@ pub returns : goal.returns
 unfolding longest longest_file first_body entry_at header_size entry_size
 returns c =
     let l = c.loop-i in
-    record { value = l.invariant.1
+    record {
+      value = l.invariant.1
           ∙ ap (body_at c.args.k c.args.n c.args.file.now) {y = c.args.n} (omega arith)
-          ∙ sym (bundle_end _ _ c.args.file.now c.requires.0); onward = l.invariant.3; stand = λ p g h. l.invariant.4 p g (omega arith) }
+          ∙ sym (bundle_end _ _ c.args.file.now c.requires.0);
+      onward = l.invariant.3;
+      stand = λ p g h. l.invariant.4 p g (omega arith);
+    }

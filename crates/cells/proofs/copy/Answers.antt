@@ -1,7 +1,6 @@
 -- `cells::copy` meets its contract: the numbers passed stand in front, the rest is as it was.
 -- Assumes nothing.
-use mathlib.Core.Path.{◌≡◌, sym, ◌∙◌}
-use Prim.Native.Nat.{◌-◌, ◌≤◌}
+use mathlib.Core.Path.{sym, ◌∙◌}
 use native.Mathlib.Nat.{zero-add}
 use borrow.Author.Rules.{rules}
 use Rattle.lists.proofs.Window.{window_none, window_store}
@@ -13,7 +12,7 @@ loop-i-init c = (search rules, search rules, window_none 0 _ _)
 
 pub loop-i-preserved : goal.loop-i-preserved
 loop-i-preserved c =
-        let l = c.loop-i in (
+    let l = c.loop-i in (
       search rules,
       search rules,
       window_store 0 l.i l.i _ _ l.to _ (sym (zero-add l.i)) (search rules) l.invariant.2 (search rules),
@@ -21,5 +20,5 @@ loop-i-preserved c =
 
 pub returns : goal.returns
 returns c =
-        let l = c.loop-i in
+    let l = c.loop-i in
     l.invariant.2 ∙ copied_whole c.args.from.now c.args.to.now l.i l.invariant.0 c.loop-i-test.false

@@ -1,8 +1,6 @@
 -- `code_positions::first_outside` meets its contract: the loop has passed only positions below n.
 -- Assumes nothing.
-use mathlib.Core.Path.{◌≡◌, sym, ap, ◌∙◌}
-use mathlib.Core.Bool.{false}
-use Prim.Native.Nat.{◌≤◌, ◌<◌, ◌-◌}
+use mathlib.Core.Path.{sym, ap, ◌∙◌}
 use borrow.Author.Count.{below_none, below_more}
 use borrow.Author.Rules.{rules}
 use borrow.Author.Tests.{le-leb, lt-leb}
@@ -23,12 +21,11 @@ returns-then-n-here c =
 
 pub loop-i-preserved : goal.loop-i-preserved
 unfolding first_outside
-loop-i-preserved c =
-    (
-      search rules,
-      below_more _ _ c.loop-i.invariant.1
-          (ap (leb c.args.n) (sym c.position_of-here.ensures) ∙ lt-leb _ _ c.if-n-here.false),
-    )
+loop-i-preserved c = (
+  search rules,
+  below_more _ _ c.loop-i.invariant.1
+      (ap (leb c.args.n) (sym c.position_of-here.ensures) ∙ lt-leb _ _ c.if-n-here.false),
+)
 
 pub returns : goal.returns
 unfolding first_outside

@@ -1,12 +1,11 @@
-use mathlib.Core.Path.{◌≡◌, ◌∙◌}
-use mathlib.Core.List.{List, ◌++◌}
-use Prim.Native.Nat.{ℕ, ◌+◌, ◌-◌, ◌*◌, ◌/◌, ◌%◌, ◌<◌, ◌≤◌}
+use mathlib.Core.Path.{◌≡◌}
+use mathlib.Core.List.{List}
+use Prim.Native.Nat.{ℕ, ◌+◌, ◌-◌, ◌*◌, ◌/◌, ◌%◌, ◌≤◌}
 use lib.ListN.{get_or}
 use Rattle.field.specs.Field.{power}
 use Rattle.poly.specs.Sum.{total}
 use Rattle.lists.proofs.Window.{window}
 use Rattle.decode_between.specs.Between.{psi}
-use Rattle.decode_between.proofs.Foldable.{inside}
 use Rattle.decode_between.proofs.fold.Given as goal
 
 -- an entry of the fold

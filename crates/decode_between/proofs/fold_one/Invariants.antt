@@ -1,11 +1,10 @@
-use mathlib.Core.Path.{◌≡◌, ◌∙◌}
+use mathlib.Core.Path.{◌≡◌}
 use mathlib.Core.List.{List}
-use Prim.Native.Nat.{ℕ, ◌+◌, ◌-◌, ◌*◌, ◌/◌, ◌%◌, ◌<◌, ◌≤◌}
+use Prim.Native.Nat.{ℕ, ◌+◌, ◌-◌, ◌*◌, ◌/◌, ◌≤◌}
 use lib.ListN.{get_or}
 use Rattle.field.specs.Field.{power}
 use Rattle.poly.specs.Sum.{total}
 use Rattle.decode_between.specs.Between.{psi}
-use Rattle.decode_between.proofs.Foldable.{inside}
 use Rattle.decode_between.proofs.fold_one.Given as goal
 
 abbrev pub term : ℕ → ℕ → ℕ → List ℕ → ℕ → ℕ

@@ -1,5 +1,4 @@
-use mathlib.Core.Path.{◌≡◌, ◌∙◌}
-use Prim.Native.Nat.{◌+◌, ◌-◌, ◌<◌, ◌≤◌}
+use Prim.Native.Nat.{◌-◌, ◌≤◌}
 use lib.ListN.{length}
 use Rattle.decode_block.specs.Multiplied.{Multiplied}
 use Rattle.decode_block.proofs.multiply_in.Given as goal

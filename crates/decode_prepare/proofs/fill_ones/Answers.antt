@@ -1,7 +1,7 @@
 -- `decode_prepare::fill_ones` meets its contract.
 -- Assumes nothing.
-use mathlib.Core.Path.{◌≡◌, refl, sym, ap, ◌∙◌}
-use Prim.Native.Nat.{ℕ, ◌-◌, ◌≤◌}
+use mathlib.Core.Path.{refl, sym, ap, ◌∙◌}
+use Prim.Native.Nat.{ℕ}
 use native.Mathlib.Nat.{zero-add}
 use native.Mathlib.Omega.{arith}
 use borrow.Author.Rules.{rules}
@@ -14,12 +14,11 @@ pub loop-i-init : goal.loop-i-init
 loop-i-init c = (search rules, search rules, window_none 0 _ _)
 
 pub loop-i-preserved : goal.loop-i-preserved
-loop-i-preserved c =
-    (
-      search rules,
-      search rules,
-      window_store 0 c.loop-i.i c.loop-i.i one c.args.list.now c.loop-i.list 1 (sym (zero-add _)) (search rules) c.loop-i.invariant.2 refl,
-    )
+loop-i-preserved c = (
+  search rules,
+  search rules,
+  window_store 0 c.loop-i.i c.loop-i.i one c.args.list.now c.loop-i.list 1 (sym (zero-add _)) (search rules) c.loop-i.invariant.2 refl,
+)
 
 pub returns : goal.returns
 returns c =

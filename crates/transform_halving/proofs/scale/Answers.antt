@@ -1,7 +1,7 @@
 -- `transform_halving::scale` meets its contract: the numbers passed are multiplied, the rest as they were.
 -- Assumes nothing.
-use mathlib.Core.Path.{◌≡◌, ap, ◌∙◌}
-use Prim.Native.Nat.{ℕ, ◌-◌, ◌≤◌}
+use mathlib.Core.Path.{ap, ◌∙◌}
+use Prim.Native.Nat.{ℕ}
 use native.Mathlib.Omega.{arith}
 use borrow.Author.Rules.{rules}
 use lib.ListN.{get_or}
@@ -14,12 +14,11 @@ pub loop-i-init : goal.loop-i-init
 loop-i-init c = (search rules, search rules, window_none 0 _ _)
 
 pub loop-i-preserved : goal.loop-i-preserved
-loop-i-preserved c =
-    (
-      search rules,
-      search rules,
-      window_change (product c.args.factor) c.loop-i.i c.args.list.now c.loop-i.list _ (search rules) c.loop-i.invariant.2 c.product.ensures.is,
-    )
+loop-i-preserved c = (
+  search rules,
+  search rules,
+  window_change (product c.args.factor) c.loop-i.i c.args.list.now c.loop-i.list _ (search rules) c.loop-i.invariant.2 c.product.ensures.is,
+)
 
 pub returns : goal.returns
 returns c =

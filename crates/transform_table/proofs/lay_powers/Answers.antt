@@ -1,7 +1,7 @@
 -- `transform_table::lay_powers` meets its contract: at the loop's head i powers are tabled, and turn is the power i of the root.
 -- Assumes nothing.
-use mathlib.Core.Path.{◌≡◌, sym, ap, ◌∙◌}
-use Prim.Native.Nat.{ℕ, ◌-◌, ◌≤◌}
+use mathlib.Core.Path.{sym, ap, ◌∙◌}
+use Prim.Native.Nat.{ℕ}
 use native.Mathlib.Nat.{zero-add}
 use native.Mathlib.Numerals.{add-one}
 use native.Mathlib.Omega.{arith}
@@ -17,8 +17,7 @@ loop-i-init c = (search rules, search rules, sym (power_zero _), window_none 0 _
 
 pub loop-i-preserved : goal.loop-i-preserved
 loop-i-preserved c =
-    let l = c.loop-i in
-    (
+    let l = c.loop-i in (
       search rules,
       search rules,
       c.product-turn.ensures.is ∙ ap (λ (x : ℕ). product x c.args.root) l.invariant.2 ∙ sym (power_step c.args.root l.i) ∙ ap (power c.args.root) (sym (add-one l.i)),

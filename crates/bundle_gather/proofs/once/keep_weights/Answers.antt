@@ -2,7 +2,7 @@
 -- Assumes nothing.
 use mathlib.Core.Path.{◌≡◌, refl, ap, ◌∙◌}
 use mathlib.Core.List.{List, ◌++◌}
-use Prim.Native.Nat.{ℕ, ◌+◌, ◌*◌, ◌-◌, ◌≤◌}
+use Prim.Native.Nat.{ℕ, ◌+◌, ◌*◌, ◌≤◌}
 use native.Mathlib.Omega.{arith}
 use borrow.Author.Rules.{rules}
 use lib.ListN.{get_or, take, drop}
@@ -20,8 +20,7 @@ loop-j-init c = (search rules, search rules, window_none _ _ _)
 
 pub loop-j-preserved : goal.loop-j-preserved
 loop-j-preserved c =
-    let l = c.loop-j in
-    (
+    let l = c.loop-j in (
       search rules,
       search rules,
       window_store (4 * c.args.size) l.j _ _ c.args.cells.now l.cells _ refl (search rules) l.invariant.2

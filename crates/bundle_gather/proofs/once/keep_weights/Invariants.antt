@@ -1,6 +1,5 @@
-use mathlib.Core.Path.{◌≡◌, ◌∙◌}
-use mathlib.Core.List.{◌++◌}
-use Prim.Native.Nat.{◌+◌, ◌*◌, ◌-◌, ◌≤◌}
+use mathlib.Core.Path.{◌≡◌}
+use Prim.Native.Nat.{◌*◌, ◌-◌, ◌≤◌}
 use lib.ListN.{length, get_or}
 use Rattle.lists.proofs.Window.{window}
 use Rattle.bundle_gather.proofs.once.keep_weights.Given as goal

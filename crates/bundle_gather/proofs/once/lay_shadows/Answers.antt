@@ -1,7 +1,7 @@
 -- `bundle_gather::once::lay_shadows` meets its contract: at the loop's head the first t shadows are laid.
 -- Assumes nothing.
-use mathlib.Core.Path.{◌≡◌, subst, ◌∙◌}
-use Prim.Native.Nat.{ℕ, ◌-◌, ◌≤◌}
+use mathlib.Core.Path.{subst, ◌∙◌}
+use Prim.Native.Nat.{ℕ}
 use native.Mathlib.Omega.{arith}
 use borrow.Author.Rules.{rules}
 use Rattle.bundle_layout.proofs.Passing.{header_inside}
@@ -21,8 +21,7 @@ lay_shadow-requires c = let l = c.loop-t in (c.requires.0, below _ _ _ c.loop-t-
 
 pub loop-t-preserved : goal.loop-t-preserved
 loop-t-preserved c =
-    let l = c.loop-t in
-    (
+    let l = c.loop-t in (
       search rules,
       shadow_long c.args.bundle.now c.requires.0 l.t _ (below _ _ _ c.loop-t-test.true c.held_in-held.ensures.0) c.requires.1 l.cells _ (l.invariant.1 ∙ c.requires.2) c.lay_shadow.ensures ∙ l.invariant.1,
       shadows_more c.args.bundle.now c.requires.0 l.t _ (below _ _ _ c.loop-t-test.true c.held_in-held.ensures.0) c.requires.1 l.cells _ (l.invariant.1 ∙ c.requires.2) c.lay_shadow.ensures l.invariant.2,

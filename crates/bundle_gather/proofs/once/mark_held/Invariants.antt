@@ -1,5 +1,5 @@
-use mathlib.Core.Path.{◌≡◌, ◌∙◌}
-use Prim.Native.Nat.{◌-◌, ◌<◌, ◌≤◌}
+use mathlib.Core.Path.{◌≡◌}
+use Prim.Native.Nat.{◌-◌, ◌≤◌}
 use Rattle.bundle_gather.specs.Gathering.{marks_in}
 use Rattle.bundle_gather.proofs.once.mark_held.Given as goal
 

@@ -2,7 +2,7 @@
 -- Assumes nothing.
 use mathlib.Core.Path.{◌≡◌, refl, sym, ap, ◌∙◌}
 use mathlib.Core.List.{List}
-use Prim.Native.Nat.{ℕ, suc, ◌+◌, ◌*◌, ◌-◌, ◌≤◌}
+use Prim.Native.Nat.{ℕ, suc, ◌+◌, ◌*◌}
 use native.Mathlib.Nat.{le_of_eq}
 use native.Mathlib.Omega.{arith}
 use borrow.Author.Rules.{rules}
@@ -41,15 +41,17 @@ loop-t-init c = (search rules, passed_none c.args.bundle.now c.requires.0 c.args
 pub gather_one-requires : goal.gather_one-requires
 gather_one-requires c =
     let l = c.loop-t in
-    record { held = (c.requires.0, c.requires.1, below _ _ _ c.loop-t-test.true c.held_in-held.ensures.0, size_is c.args.bundle.now _ _ c.n_in.ensures.0 c.size-size.ensures); fixed = (
+    record {
+      held = (c.requires.0, c.requires.1, below _ _ _ c.loop-t-test.true c.held_in-held.ensures.0, size_is c.args.bundle.now _ _ c.n_in.ensures.0 c.size-size.ensures);
+      fixed = (
         l.invariant.1.fixed,
         ap (λ (N : ℕ). get_or l.cells (6 * N + l.t) 0) (size_is c.args.bundle.now _ _ c.n_in.ensures.0 c.size-size.ensures) ∙ l.invariant.1.left l.t (le_of_eq refl) (below _ _ _ c.loop-t-test.true c.held_in-held.ensures.0),
-      ) }
+      );
+    }
 
 pub loop-t-preserved : goal.loop-t-preserved
 loop-t-preserved c =
-    let l = c.loop-t in
-    (
+    let l = c.loop-t in (
       search rules,
       passed_more c.args.bundle.now c.requires.0 c.args.b l.t (below _ _ _ c.loop-t-test.true c.held_in-held.ensures.0) l.cells _ l.invariant.1
           (stored c.args.bundle.now c.args.b l.t _ l.cells _ (size_is c.args.bundle.now _ _ c.n_in.ensures.0 c.size-size.ensures) c.gather_one.ensures),

@@ -1,5 +1,4 @@
-use mathlib.Core.Path.{◌≡◌, ◌∙◌}
-use Prim.Native.Nat.{◌+◌, ◌*◌, ◌-◌, ◌≤◌}
+use Prim.Native.Nat.{◌-◌, ◌≤◌}
 use Rattle.bundle_gather.proofs.Gathering.{Passed}
 use Rattle.bundle_gather.proofs.symbols.gather.Given as goal
 

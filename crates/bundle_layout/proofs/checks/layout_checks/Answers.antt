@@ -76,10 +76,13 @@ blocks-requires c = countable _ _ _ _ c.bad_bundle_shape.ensures c.if-bad_bundle
 pub rest_good-requires : goal.rest_good-requires
 unfolding layout_checks header_size k_in n_in length_in held_in blocks_in
 rest_good-requires c =
-    record { inside = (long _ _ c.bad_front.ensures c.if-bad_front.false, c.n_in-n.ensures.0, c.held_in.ensures.0, c.held_in.ensures.1); counted = (
+    record {
+      inside = (long _ _ c.bad_front.ensures c.if-bad_front.false, c.n_in-n.ensures.0, c.held_in.ensures.0, c.held_in.ensures.1);
+      counted = (
         blocks_read _ _ _ _ c.k_in-k.ensures.0 c.length_in-length.ensures.0 c.blocks-2.ensures,
         (measurable _ _ _ _ c.bad_bundle_shape.ensures c.if-bad_bundle_shape.false _ c.blocks-2.ensures).1,
-      ) }
+      );
+    }
 
 pub returns-then-rest_good : goal.returns-then-rest_good
 unfolding layout_checks header_size k_in n_in length_in held_in blocks_in

@@ -1,15 +1,12 @@
 -- `bundle_layout::checks::rest_good` meets its contract: the loop has passed only good entries, low is the least that the next position may
 -- be, and at is where the next body has to begin.
 -- Assumes nothing.
-use mathlib.Core.Path.{◌≡◌, sym, ◌∙◌}
-use mathlib.Core.Bool.{false}
-use Prim.Native.Nat.{◌≤◌, ◌<◌, ◌-◌}
+use mathlib.Core.Path.{sym, ◌∙◌}
 use native.Mathlib.Omega.{arith}
 use borrow.Author.Count.{below_none, below_more}
 use borrow.Author.Rules.{rules}
 use Rattle.bundle_storage.specs.Blocks.{most_blocks}
 use Rattle.bundle_layout.specs.Fields.{position_in}
-use Rattle.bundle_layout.specs.Layout.{bad_entry}
 use Rattle.bundle_storage.specs.Storage.{body_size}
 use Rattle.bundle_layout.specs.Shadows.{header_size, entry_size, first_body}
 use Rattle.bundle_layout.proofs.Entries.{entry_inside, start_first, start_step, end_inside, rest_short, rest_bad, rest_is}
@@ -22,14 +19,13 @@ returns-then-bundle-at c = sym (rest_short c.args.bundle.now (omega (arith, c.if
 
 pub loop-t-init : goal.loop-t-init
 unfolding body_size most_blocks first_body header_size entry_size
-loop-t-init c =
-    (
-      search rules,
-      least_first _,
-      omega (arith, start_first c.args.bundle.now, c.requires.inside.2),
-      c.if-bundle-at.false,
-      below_none _,
-    )
+loop-t-init c = (
+  search rules,
+  least_first _,
+  omega (arith, start_first c.args.bundle.now, c.requires.inside.2),
+  c.if-bundle-at.false,
+  below_none _,
+)
 
 pub bad_entry-requires : goal.bad_entry-requires
 unfolding body_size most_blocks first_body header_size entry_size

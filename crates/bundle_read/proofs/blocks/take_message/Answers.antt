@@ -62,5 +62,8 @@ lay_bytes-requires c = words_low c.args.message.now c.requires.a_message.1 (sym 
 pub returns : goal.returns
 unfolding longest_file
 returns c =
-    record { answer = taken_told (k_in c.args.bundle.now) (length_in c.args.bundle.now) c.args.b c.args.message.now _ (rest c.args.bundle.now c.args.b _ _ c.k_in.ensures.0 c.length_in.ensures.0) (sym c.bad_word.ensures ∙ c.if-bad_word.false) (sym c.bad_bytes.ensures ∙ c.if-bad_bytes.false); laid = λ done.
-          bytes_laid_lem (k_in c.args.bundle.now) c.args.b _ c.args.message.now c.args.file.now c.lay_bytes.new.file c.requires.a_message.0 (begins c.args.bundle.now c.args.b _ c.k_in.ensures.0) c.lay_bytes.ensures }
+    record {
+      answer = taken_told (k_in c.args.bundle.now) (length_in c.args.bundle.now) c.args.b c.args.message.now _ (rest c.args.bundle.now c.args.b _ _ c.k_in.ensures.0 c.length_in.ensures.0) (sym c.bad_word.ensures ∙ c.if-bad_word.false) (sym c.bad_bytes.ensures ∙ c.if-bad_bytes.false);
+      laid = λ done.
+          bytes_laid_lem (k_in c.args.bundle.now) c.args.b _ c.args.message.now c.args.file.now c.lay_bytes.new.file c.requires.a_message.0 (begins c.args.bundle.now c.args.b _ c.k_in.ensures.0) c.lay_bytes.ensures;
+    }

@@ -1,7 +1,6 @@
 -- `bundle_read::bytes::bad_bytes` meets its contract: the loop has passed only zeros.
 -- Assumes nothing.
-use mathlib.Core.Path.{◌≡◌, sym, ◌∙◌}
-use Prim.Native.Nat.{◌*◌, ◌≤◌, ◌<◌, ◌-◌}
+use mathlib.Core.Path.{sym, ◌∙◌}
 use native.Mathlib.Omega.{arith}
 use borrow.Author.Rules.{rules}
 use Rattle.bundle_storage.specs.Bytes.{in_bytes}

@@ -1,4 +1,4 @@
-use mathlib.Core.Path.{◌≡◌, ◌∙◌}
+use mathlib.Core.Path.{◌≡◌}
 use Prim.Native.Nat.{ℕ, ◌*◌, ◌≤◌, ◌<◌, ◌-◌}
 use lib.ListN.{length, get_or}
 use Rattle.bundle_storage.specs.Bytes.{in_bytes}

@@ -1,8 +1,6 @@
 -- `bundle_storage::body::list_rises` meets its contract: the loop has passed only entries in order, and low is the least that the next may be.
 -- Assumes nothing.
-use mathlib.Core.Path.{◌≡◌, sym}
-use mathlib.Core.Bool.{false}
-use Prim.Native.Nat.{◌≤◌, ◌<◌, ◌-◌}
+use mathlib.Core.Path.{sym}
 use borrow.Author.Count.{below_none, below_more}
 use borrow.Author.Rules.{rules}
 use Rattle.bundle_storage.specs.Rising.{rises}

@@ -1,7 +1,6 @@
 -- `bundle_write::bodies::store_block` meets its contract: the bodies passed have the block, the others those before it.
 -- Assumes nothing.
 use mathlib.Core.Path.{◌≡◌, ◌∙◌}
-use Prim.Native.Nat.{◌<◌, ◌-◌, ◌≤◌}
 use native.Mathlib.Omega.{arith}
 use borrow.Author.Rules.{rules}
 use Rattle.limits.specs.Shape.{longest}
@@ -62,15 +61,18 @@ put_symbol-requires c =
     let file = c.args.file.now in
     let out = c.args.out.now in
     let before = c.requires.begun in
-    let inside = c.loop-i-test.true in record { inside = (
+    let inside = c.loop-i-test.true in record {
+      inside = (
         entry_fits _ _ file before.0 l.i inside l.out (still_room _ _ file before.0 _ before.1 out l.out before.2 l.invariant.2),
         turn_inside _ _ file before.0 _ before.1 out l.out before.2 l.invariant.2 l.i inside _ (listed (goal.at.put_symbol-requires c).After-wide) _ c.blocks-blocks.ensures,
         omega (arith, c.blocks-blocks.ensures, (limits _ _ _ before.0).blocks),
-      ); next = (
+      );
+      next = (
         omega (arith, c.blocks-blocks.ensures),
         turn_done _ _ file before.0 _ before.1 out l.out before.2 l.invariant.2 l.i inside _ (listed (goal.at.put_symbol-requires c).After-wide),
         omega (arith, c.requires.coded l.i inside, symbol_small c.args.k c.args.n file l.i c.args.b),
-      ) }
+      );
+    }
 
 pub loop-i-preserved : goal.loop-i-preserved
 unfolding longest longest_file
@@ -80,8 +82,7 @@ loop-i-preserved c =
     let out = c.args.out.now in
     let before = c.requires.begun in
     let inside = c.loop-i-test.true in
-    let symbol = c.requires.coded l.i inside in
-    (
+    let symbol = c.requires.coded l.i inside in (
       search rules,
       search rules,
       turn_onward _ _ file before.0 _ before.1 out l.out before.2 l.invariant.2 l.i inside _ (listed (goal.at.loop-i-preserved c).After-wide) _ symbol c.put_symbol.new.out c.put_symbol.ensures,

@@ -1,4 +1,4 @@
-use mathlib.Core.Path.{◌≡◌, ◌∙◌}
+use mathlib.Core.Path.{◌≡◌}
 use Prim.Native.Nat.{ℕ, suc, ◌<◌, ◌-◌, ◌≤◌}
 use lib.ListN.{length}
 use Rattle.bundle_file.specs.File.{file_bundle}

@@ -19,16 +19,18 @@ pub returns-then-none_counted : goal.returns-then-none_counted
 returns-then-none_counted c =
     let k = c.args.k in
     let n = c.args.n in
-    let file = c.args.file.now in record { value = c.write_front-length.ensures.value; out_after = plain_stands k n file c.requires.0 c.args.out.now c.write_plain.new.out c.write_front-length.new.out c.write_plain.ensures.plainly c.write_plain.ensures.plain c.write_front-length.ensures.onward c.write_front-length.ensures.stand
-          (none_over n _ c.write_plain.new.cells c.size-size.ensures (n_fits k n _ c.requires.0) k file _ c.write_plain.ensures.counted (sym c.none_counted.ensures ∙ c.if-none_counted.true)) }
+    let file = c.args.file.now in record {
+      value = c.write_front-length.ensures.value;
+      out_after = plain_stands k n file c.requires.0 c.args.out.now c.write_plain.new.out c.write_front-length.new.out c.write_plain.ensures.plainly c.write_plain.ensures.plain c.write_front-length.ensures.onward c.write_front-length.ensures.stand
+          (none_over n _ c.write_plain.new.cells c.size-size.ensures (n_fits k n _ c.requires.0) k file _ c.write_plain.ensures.counted (sym c.none_counted.ensures ∙ c.if-none_counted.true));
+    }
 
 pub write_bodies-requires : goal.write_bodies-requires
-write_bodies-requires c =
-    (
-      c.requires.0,
-      second_begun c.args.k c.args.n c.args.file.now c.requires.0 c.args.out.now c.write_plain.new.out c.write_front-length.new.out c.write_plain.ensures.plainly c.write_plain.ensures.plain c.write_front-length.ensures.onward c.write_front-length.ensures.stand,
-      omega (arith, c.write_plain.ensures.counted.long),
-    )
+write_bodies-requires c = (
+  c.requires.0,
+  second_begun c.args.k c.args.n c.args.file.now c.requires.0 c.args.out.now c.write_plain.new.out c.write_front-length.new.out c.write_plain.ensures.plainly c.write_plain.ensures.plain c.write_front-length.ensures.onward c.write_front-length.ensures.stand,
+  omega (arith, c.write_plain.ensures.counted.long),
+)
 
 pub returns : goal.returns
 returns c = record { value = c.write_front-length.ensures.value; out_after = second_written c.args.k c.args.n c.args.file.now c.requires.0 c.args.out.now c.write_plain.new.out c.write_front-length.new.out c.write_plain.ensures.plainly c.write_plain.ensures.plain c.write_front-length.ensures.onward c.write_front-length.ensures.stand _ c.write_bodies.ensures }

@@ -1,7 +1,6 @@
 -- `decode_product::moving::copy_within` meets its contract: at the loop's head i numbers stand at the other place, the rest is as it was.
 -- Assumes nothing.
-use mathlib.Core.Path.{◌≡◌, refl}
-use Prim.Native.Nat.{◌+◌, ◌-◌, ◌≤◌}
+use mathlib.Core.Path.{refl}
 use borrow.Author.Rules.{rules}
 use Rattle.lists.proofs.Window.{window_none, window_store}
 use Rattle.decode_product.proofs.Copying.{unwritten, all_written}
@@ -12,8 +11,7 @@ loop-i-init c = (search rules, search rules, window_none _ _ _)
 
 pub loop-i-preserved : goal.loop-i-preserved
 loop-i-preserved c =
-    let l = c.loop-i in
-    (
+    let l = c.loop-i in (
       search rules,
       search rules,
       window_store c.args.to l.i _ _ c.args.cells.now l.cells _ refl (search rules) l.invariant.2

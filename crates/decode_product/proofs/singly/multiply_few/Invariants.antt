@@ -1,4 +1,3 @@
-use Prim.Native.Nat.{◌-◌}
 use Rattle.decode_product.proofs.Stepping.{Stepped}
 use Rattle.decode_product.proofs.singly.multiply_few.Given as goal
 

@@ -1,8 +1,7 @@
 -- `field::arithmetic::power` meets its contract: at the loop's head result · base ^ left is x ^ exponent.
 -- Assumes nothing.
 use mathlib.Core.Path.{◌≡◌, sym, ap, ◌∙◌}
-use mathlib.Core.Logic.{⊎_elim}
-use Prim.Native.Nat.{ℕ, ◌+◌, ◌*◌, ◌^◌, ◌/◌, ◌%◌, ◌<◌}
+use Prim.Native.Nat.{ℕ, ◌+◌, ◌*◌, ◌^◌, ◌/◌, ◌%◌}
 use native.Mathlib.Nat.{pow-zero, mul-one, one-mul}
 use native.Mathlib.Omega.{arith}
 use lib.Dec.{lit<}
@@ -46,18 +45,16 @@ pub loop-left-preserved : goal.loop-left-preserved
 loop-left-preserved c =
     let l = c.loop-left in
     elim c.if-left-eq1.branch [
-      then-left-eq1 w ↦
-        (
-          turn _ _ l.result l.base l.left _ _ l.invariant.0 c.product-base.ensures.is
-              (≈-of (w.result-is ∙ w.product-result.ensures.is) ∘≈ one-over l.result l.base l.left w.if-left-eq1.true),
-          omega (arith, w.result-is, w.product-result.ensures.small),
-        )
-    | else-left-eq1 w ↦
-        (
-          turn _ _ l.result l.base l.left _ _ l.invariant.0 c.product-base.ensures.is
-              (≈-of w.result-is ∘≈ none_over l.result l.base (l.left % 2) (omega (arith, w.if-left-eq1.false))),
-          omega (arith, w.result-is),
-        )
+      | then-left-eq1 w ↦ (
+        turn _ _ l.result l.base l.left _ _ l.invariant.0 c.product-base.ensures.is
+            (≈-of (w.result-is ∙ w.product-result.ensures.is) ∘≈ one-over l.result l.base l.left w.if-left-eq1.true),
+        omega (arith, w.result-is, w.product-result.ensures.small),
+      )
+      | else-left-eq1 w ↦ (
+        turn _ _ l.result l.base l.left _ _ l.invariant.0 c.product-base.ensures.is
+            (≈-of w.result-is ∘≈ none_over l.result l.base (l.left % 2) (omega (arith, w.if-left-eq1.false))),
+        omega (arith, w.result-is),
+      )
     ]
 
 pub returns : goal.returns

@@ -1,7 +1,5 @@
-use mathlib.Core.Path.{◌≡◌, ◌∙◌}
-use Prim.Native.Nat.{◌+◌, ◌*◌, ◌^◌, ◌/◌, ◌%◌, ◌<◌}
+use Prim.Native.Nat.{◌*◌, ◌^◌, ◌<◌}
 use Rattle.field.specs.Congruence.{◌≈◌}
-use Rattle.field.proofs.Congruence.{◌∘≈◌, ◌·≈◌}
 use Rattle.field.proofs.arithmetic.power.Given as goal
 
 abbrev pub invariant-loop-left : goal.invariant-loop-left

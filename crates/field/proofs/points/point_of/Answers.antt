@@ -10,7 +10,7 @@ use Rattle.field.proofs.points.point_of.Goals as goal
 pub returns : goal.returns
 unfolding root_of point_of
 returns c =
-        record {
+    record {
       is =
           c.power.ensures.is
           ∙ ap (λ (r : ℕ). power r c.args.position.0) (c.root.ensures.is ∙ ap root c.level.ensures.is);

@@ -1,7 +1,7 @@
 -- `listing_text::table::put_entries` meets its contract: after each step the lines of the entries passed stand one behind the other.
 -- Assumes nothing.
-use mathlib.Core.Path.{◌≡◌, refl, subst, ◌∙◌}
-use Prim.Native.Nat.{ℕ, ◌*◌, ◌-◌, ◌≤◌, zero-le}
+use mathlib.Core.Path.{refl, subst, ◌∙◌}
+use Prim.Native.Nat.{ℕ, ◌*◌, zero-le}
 use native.Mathlib.Omega.{arith}
 use borrow.Author.Rules.{rules}
 use Rattle.bundle_layout.proofs.Passing.{entry_there}
@@ -26,12 +26,11 @@ pub put_entry_line-end-requires : goal.put_entry_line-end-requires
 put_entry_line-end-requires c = omega (arith, c.loop-t-test.true, c.requires.1, c.requires.2, c.loop-t.invariant.1, c.loop-t.invariant.2.ends, c.loop-t.invariant.2.short)
 
 pub loop-t-preserved : goal.loop-t-preserved
-loop-t-preserved c =
-    (
-      search rules,
-      c.put_entry_line-end.auto.out ∙ c.loop-t.invariant.1,
-      entries_more c.args.bundle.now c.loop-t.t _ _ _ (omega (arith, c.requires.2)) c.position_in-position.ensures.0 c.offset_in-offset.ensures.0 c.count_in-count.ensures.0 c.loop-t.invariant.2 c.put_entry_line-end.ensures,
-    )
+loop-t-preserved c = (
+  search rules,
+  c.put_entry_line-end.auto.out ∙ c.loop-t.invariant.1,
+  entries_more c.args.bundle.now c.loop-t.t _ _ _ (omega (arith, c.requires.2)) c.position_in-position.ensures.0 c.offset_in-offset.ensures.0 c.count_in-count.ensures.0 c.loop-t.invariant.2 c.put_entry_line-end.ensures,
+)
 
 pub returns : goal.returns
 returns c =

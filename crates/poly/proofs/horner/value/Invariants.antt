@@ -1,5 +1,5 @@
-use mathlib.Core.Path.{◌≡◌, ◌∙◌}
-use Prim.Native.Nat.{◌+◌, ◌-◌, ◌*◌, ◌%◌, ◌<◌, ◌≤◌}
+use mathlib.Core.Path.{◌≡◌}
+use Prim.Native.Nat.{◌%◌, ◌<◌, ◌≤◌}
 use lib.ListN.{length, drop}
 use Rattle.poly.specs.Value.{value}
 use Rattle.poly.proofs.horner.value.Given as goal

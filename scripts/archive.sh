@@ -1,5 +1,5 @@
 # archive.sh, for bash scripts to source from the repository's root: the archive of the proved library, and programs over it in C and C++.
-# The archive is for x86-64: elsewhere programs are linked whole, and what starts the kit's own programs there starts them.
+# The archive is for x86-64: elsewhere programs are linked whole.
 # shellcheck shell=bash
 command -v rt >/dev/null || {
     echo "Rattle's kit is missing: put its command rt on the PATH" >&2

@@ -1,4 +1,4 @@
-// What is worked out once for a bundle, before its first block. Of the 8N cells of working space the decoder has the first 4N, 1 / (N.K.M) and the
+// What is worked out once for a bundle, before its first block. Of the 8N cells of working space the decoder has the first 4N, 1 / (N·K·M) and the
 // powers of ψ among them; behind them stand the weights M(x), and for each held shadow where its words begin, its cursor and its position.
 // No entry points: the callers have made the checks.
 ghost use Rattle.std.specs.Prelude.{◌≡◌, [], ◌*◌, ◌<◌, ◌≤◌, length};

@@ -1,5 +1,5 @@
 // No entry points: the polynomial of k symbols that, multiplied by the product M over the missing points, has given values at the N points, or that
-// there is none. Of 4N cells the first N hold the values, the next N are room, the third N hold 1 / (N.K.M) at the K points between, and the
+// there is none. Of 4N cells the first N hold the values, the next N are room, the third N hold 1 / (N·K·M) at the K points between, and the
 // last N the powers of ψ. Three transforms: one of N, which decides, and two of K.
 #![tactic(auto)]
 
@@ -31,7 +31,7 @@ fn zero_from(list: &[u32], from: usize) -> bool
     true
 }
 
-// The values at the points between, each divided by N.K.M.
+// The values at the points between, each divided by N·K·M.
 fn divide_values(size: usize, step: usize, cells: &mut [u32])
     requires { (length cells.old ≡ 4 * size) × (step ≤ size) }
     ensures { cells.new ≡ with_quotients size step cells.old }
@@ -81,7 +81,7 @@ fn quotient(k: usize, size: usize, step: usize, cells: &mut [u32])
 }
 
 // Whether there is such a polynomial, which then stands in front; `missing` is how many points are. It is known after the first transform:
-// M is monic, so typeof.f.M has no coefficient from k + missing on. Where nothing is missing M is 1.
+// M is monic, so f·M has no coefficient from k + missing on. Where nothing is missing M is 1.
 pub fn divide(k: usize, n: usize, missing: usize, cells: &mut [u32]) -> bool
     requires { (bad_shape k n ≡ false) × Foldable (size_of n) (size_of k) cells.old × (missing ≤ size_of n) }
     ensures divided { (zs : List ℕ) → length zs ≡ missing → ZeroAt k zs (take (size_of n) cells.old)

@@ -1,4 +1,4 @@
--- One over N-as-K times each of K values: what divides by M at the points between, and by N and K on the way back.
+-- One over N·K times each of K values: what divides by M at the points between, and by N and K on the way back.
 use Rattle.std.specs.Prelude.{List, ℕ}
 use Rattle.field.specs.Field.{product, inverse}
 use Rattle.lists.specs.Tab.{tab}

@@ -1,5 +1,5 @@
 // No entry points: what decoding works out of the positions alone, before it looks at a value, in 4N cells, of which the third N hold a mark for
-// each position that is held. It leaves M(x) at the N points in the first N cells, 1 / (N.K.M) at the K points between in the third N, and the
+// each position that is held. It leaves M(x) at the N points in the first N cells, 1 / (N·K·M) at the K points between in the third N, and the
 // powers of ψ in the last.
 #![tactic(auto)]
 
@@ -36,7 +36,7 @@ fn fill_ones(list: &mut [u32])
     }
 }
 
-// One over N.K times each of the K values in the second N cells, to the third.
+// One over N·K times each of the K values in the second N cells, to the third.
 fn invert(size: usize, step: usize, cells: &mut [u32])
     requires { (length cells.old ≡ 4 * size) × (step ≤ size) × (size ≤ 65536) }
     ensures { cells.new
@@ -54,8 +54,8 @@ fn invert(size: usize, step: usize, cells: &mut [u32])
 // From M's coefficients in front: M at the points between, inverted, and then M at the N points, in front.
 fn weigh(size: usize, step: usize, cells: &mut [u32])
     requires { Foldable size step cells.old }
-    ensures first { take size cells.new ≡ transform_of (take size cells.old) }
-    ensures second { take step (drop (2 * size) cells.new)
+    ensures values { take size cells.new ≡ transform_of (take size cells.old) }
+    ensures inverses { take step (drop (2 * size) cells.new)
         ≡ inverses_of size step (λ i. get_or (values_between size step (take size cells.old)) i 0) }
     ensures rest { drop (3 * size) cells.new ≡ drop (3 * size) cells.old }
 {
@@ -68,9 +68,9 @@ fn weigh(size: usize, step: usize, cells: &mut [u32])
 fn begin(size: usize, cells: &mut [u32]) -> usize
     requires { (length cells.old ≡ 4 * size) × (size ≡ size_of size) × (level_of size < 16) }
     ensures missing { result ≡ length (missing_points size (marks_at size cells.old)) }
-    ensures first { take size cells.new
+    ensures points { take size cells.new
         ≡ replicate (size - result) 0 ++ missing_points size (marks_at size cells.old) }
-    ensures second { drop (3 * size) cells.new ≡ tab size (power (psi size)) }
+    ensures powers { drop (3 * size) cells.new ≡ tab size (power (psi size)) }
 {
     let twist = root(level(size) + 1);
     lay_powers(twist, &mut cells[3 * size..]);

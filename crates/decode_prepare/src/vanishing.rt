@@ -30,7 +30,7 @@ fn multiply_points(size: usize, missing: usize, cells: &mut [u32])
         × (missing ≤ size) }
     requires points { (take (size - missing) cells.old ≡ replicate (size - missing) 0)
         × Symbols (part (size - missing) missing cells.old) }
-    ensures values { part (size - missing) missing cells.new
+    ensures coefficients { part (size - missing) missing cells.new
         ≡ take missing (vanishing (part (size - missing) missing cells.old)) }
     ensures rest { drop (2 * size) cells.new ≡ drop (2 * size) cells.old }
 {
@@ -44,7 +44,7 @@ pub fn lay_product(size: usize, missing: usize, cells: &mut [u32])
         × (missing < size) }
     requires points { (take (size - missing) cells.old ≡ replicate (size - missing) 0)
         × Symbols (part (size - missing) missing cells.old) }
-    ensures values { take size cells.new
+    ensures coefficients { take size cells.new
         ≡ vanishing (part (size - missing) missing cells.old) ++ replicate (size - missing - 1) 0 }
     ensures rest { drop (2 * size) cells.new ≡ drop (2 * size) cells.old }
 {

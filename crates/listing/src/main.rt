@@ -23,7 +23,7 @@ fn read_input<R: Read>(from: &mut R, input: &mut [u8]) -> usize
     done
 }
 
-// Writes until all is written or a write takes nothing or fails; what was written is the front of the text.
+// Writes until all is written or a write takes nothing or fails; what was written is a front of the text.
 fn write_output<W: Write>(to: &mut W, text: &[u8])
     ensures { (n : ℕ) × Appends (W.contents to.old) (W.contents to.new) (take n text.now) }
 {

@@ -18,4 +18,4 @@ pub lay_missing-requires : goal.lay_missing-requires
 lay_missing-requires c = missing_asked _ _ c.requires.0 _ (psi_is _ _ _ c.level.ensures.is c.root-twist.ensures.is) _ c.lay_powers.ensures _ c.clear.ensures c.requires.1
 
 pub returns : goal.returns
-returns c = record { missing = begun_count _ _ c.requires.0 _ (psi_is _ _ _ c.level.ensures.is c.root-twist.ensures.is) _ c.lay_powers.ensures _ c.clear.ensures _ _ c.lay_missing.ensures.missing c.lay_missing.ensures.points; first = begun_front _ _ c.requires.0 _ (psi_is _ _ _ c.level.ensures.is c.root-twist.ensures.is) _ c.lay_powers.ensures _ c.clear.ensures _ _ c.lay_missing.ensures.missing c.lay_missing.ensures.points; second = begun_powers _ _ c.requires.0 _ (psi_is _ _ _ c.level.ensures.is c.root-twist.ensures.is) _ c.lay_powers.ensures _ c.clear.ensures _ _ c.lay_missing.ensures.missing c.lay_missing.ensures.points }
+returns c = record { missing = begun_count _ _ c.requires.0 _ (psi_is _ _ _ c.level.ensures.is c.root-twist.ensures.is) _ c.lay_powers.ensures _ c.clear.ensures _ _ c.lay_missing.ensures.missing c.lay_missing.ensures.points; points = begun_front _ _ c.requires.0 _ (psi_is _ _ _ c.level.ensures.is c.root-twist.ensures.is) _ c.lay_powers.ensures _ c.clear.ensures _ _ c.lay_missing.ensures.missing c.lay_missing.ensures.points; powers = begun_powers _ _ c.requires.0 _ (psi_is _ _ _ c.level.ensures.is c.root-twist.ensures.is) _ c.lay_powers.ensures _ c.clear.ensures _ _ c.lay_missing.ensures.missing c.lay_missing.ensures.points }

@@ -18,22 +18,22 @@ slice_bounds-fill_ones-end c = let p = c.requires in omega (arith, c.begin-missi
 pub returns-then-missing-eq0 : goal.returns-then-missing-eq0
 returns-then-missing-eq0 c =
     let p = c.requires in
-    nothing_missing _ _ _ p.0 p.1 p.2 _ _ c.size-size.ensures c.size-step.ensures _ _ c.begin-missing.auto.cells c.begin-missing.ensures.missing c.begin-missing.ensures.first c.begin-missing.ensures.second c.if-missing-eq0.true _ c.fill_ones.ensures
+    nothing_missing _ _ _ p.0 p.1 p.2 _ _ c.size-size.ensures c.size-step.ensures _ _ c.begin-missing.auto.cells c.begin-missing.ensures.missing c.begin-missing.ensures.points c.begin-missing.ensures.powers c.if-missing-eq0.true _ c.fill_ones.ensures
 
 pub lay_product-requires : goal.lay_product-requires
 lay_product-requires c =
     let all = let p = c.requires in
-    product_asked _ _ _ p.0 p.1 p.2 _ _ c.size-size.ensures c.size-step.ensures _ _ c.begin-missing.auto.cells c.begin-missing.ensures.missing c.begin-missing.ensures.first c.begin-missing.ensures.second (omega (arith, c.if-missing-eq0.false)) in record { sizes = all.0; points = all.1 }
+    product_asked _ _ _ p.0 p.1 p.2 _ _ c.size-size.ensures c.size-step.ensures _ _ c.begin-missing.auto.cells c.begin-missing.ensures.missing c.begin-missing.ensures.points c.begin-missing.ensures.powers (omega (arith, c.if-missing-eq0.false)) in record { sizes = all.0; points = all.1 }
 
 pub weigh-requires : goal.weigh-requires
 weigh-requires c =
     let p = c.requires in
-    weigh_asked _ _ _ p.0 p.1 p.2 _ _ c.size-size.ensures c.size-step.ensures _ _ c.begin-missing.auto.cells c.begin-missing.ensures.missing c.begin-missing.ensures.first c.begin-missing.ensures.second
-    _ c.lay_product.auto.cells c.lay_product.ensures.values c.lay_product.ensures.rest
+    weigh_asked _ _ _ p.0 p.1 p.2 _ _ c.size-size.ensures c.size-step.ensures _ _ c.begin-missing.auto.cells c.begin-missing.ensures.missing c.begin-missing.ensures.points c.begin-missing.ensures.powers
+    _ c.lay_product.auto.cells c.lay_product.ensures.coefficients c.lay_product.ensures.rest
 
 pub returns : goal.returns
 returns c =
     let p = c.requires in
-    something_missing _ _ _ p.0 p.1 p.2 _ _ c.size-size.ensures c.size-step.ensures _ _ c.begin-missing.auto.cells c.begin-missing.ensures.missing c.begin-missing.ensures.first c.begin-missing.ensures.second
-    _ c.lay_product.auto.cells c.lay_product.ensures.values c.lay_product.ensures.rest
-    _ c.weigh.auto.cells c.weigh.ensures.first c.weigh.ensures.second c.weigh.ensures.rest
+    something_missing _ _ _ p.0 p.1 p.2 _ _ c.size-size.ensures c.size-step.ensures _ _ c.begin-missing.auto.cells c.begin-missing.ensures.missing c.begin-missing.ensures.points c.begin-missing.ensures.powers
+    _ c.lay_product.auto.cells c.lay_product.ensures.coefficients c.lay_product.ensures.rest
+    _ c.weigh.auto.cells c.weigh.ensures.values c.weigh.ensures.inverses c.weigh.ensures.rest

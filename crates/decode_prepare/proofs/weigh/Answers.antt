@@ -15,4 +15,4 @@ pub transform_by-requires : goal.transform_by-requires
 transform_by-requires c = transform_asked _ _ _ c.requires _ c.values_between.ensures _ c.invert.ensures
 
 pub returns : goal.returns
-returns c = record { first = weighed _ _ _ c.requires _ c.values_between.ensures _ c.invert.ensures _ c.transform_by.ensures; second = inverses_are _ _ _ c.requires _ c.values_between.ensures _ c.invert.ensures _ c.transform_by.ensures; rest = powers_stay _ _ _ c.requires _ c.values_between.ensures _ c.invert.ensures _ c.transform_by.ensures }
+returns c = record { values = weighed _ _ _ c.requires _ c.values_between.ensures _ c.invert.ensures _ c.transform_by.ensures; inverses = inverses_are _ _ _ c.requires _ c.values_between.ensures _ c.invert.ensures _ c.transform_by.ensures; rest = powers_stay _ _ _ c.requires _ c.values_between.ensures _ c.invert.ensures _ c.transform_by.ensures }

@@ -27,7 +27,7 @@ pub bounds-cells-missing : goal.bounds-cells-missing
 bounds-cells-missing c =
     omega (
       arith,
-      behind_long _ _ _ _ (counted c.args.size c.args.missing c.args.cells.now c.requires.sizes.0 c.requires.sizes.4) c.requires.sizes.4 (c.multiply_points.auto.cells ∙ c.requires.sizes.0) c.multiply_points.ensures.values _ c.bring.ensures _ c.clear.ensures,
+      behind_long _ _ _ _ (counted c.args.size c.args.missing c.args.cells.now c.requires.sizes.0 c.requires.sizes.4) c.requires.sizes.4 (c.multiply_points.auto.cells ∙ c.requires.sizes.0) c.multiply_points.ensures.coefficients _ c.bring.ensures _ c.clear.ensures,
       c.multiply_points.auto.cells,
       c.requires.sizes.0,
       c.requires.sizes.4,
@@ -35,8 +35,8 @@ bounds-cells-missing c =
 
 pub shape_of-cells : goal.shape_of-cells
 shape_of-cells c =
-    laid_long _ _ _ _ (counted c.args.size c.args.missing c.args.cells.now c.requires.sizes.0 c.requires.sizes.4) c.requires.sizes.4 (c.multiply_points.auto.cells ∙ c.requires.sizes.0) c.multiply_points.ensures.values _ c.bring.ensures _ c.clear.ensures
+    laid_long _ _ _ _ (counted c.args.size c.args.missing c.args.cells.now c.requires.sizes.0 c.requires.sizes.4) c.requires.sizes.4 (c.multiply_points.auto.cells ∙ c.requires.sizes.0) c.multiply_points.ensures.coefficients _ c.bring.ensures _ c.clear.ensures
     ∙ c.multiply_points.auto.cells
 
 pub returns : goal.returns
-returns c = let long = c.multiply_points.auto.cells ∙ c.requires.sizes.0 in record { values = product_laid _ _ _ _ (counted c.args.size c.args.missing c.args.cells.now c.requires.sizes.0 c.requires.sizes.4) c.requires.sizes.4 long c.multiply_points.ensures.values _ c.bring.ensures _ c.clear.ensures; rest = rest_laid _ _ _ _ (counted c.args.size c.args.missing c.args.cells.now c.requires.sizes.0 c.requires.sizes.4) c.requires.sizes.4 long c.multiply_points.ensures.values _ c.bring.ensures _ c.clear.ensures ∙ c.multiply_points.ensures.rest }
+returns c = let long = c.multiply_points.auto.cells ∙ c.requires.sizes.0 in record { coefficients = product_laid _ _ _ _ (counted c.args.size c.args.missing c.args.cells.now c.requires.sizes.0 c.requires.sizes.4) c.requires.sizes.4 long c.multiply_points.ensures.coefficients _ c.bring.ensures _ c.clear.ensures; rest = rest_laid _ _ _ _ (counted c.args.size c.args.missing c.args.cells.now c.requires.sizes.0 c.requires.sizes.4) c.requires.sizes.4 long c.multiply_points.ensures.coefficients _ c.bring.ensures _ c.clear.ensures ∙ c.multiply_points.ensures.rest }

@@ -21,4 +21,4 @@ pub multiply_out-requires : goal.multiply_out-requires
 multiply_out-requires c = out_asked _ _ _ c.requires.sizes.0 c.requires.sizes.1 c.requires.sizes.2 c.requires.sizes.3 c.requires.sizes.4 c.requires.points.0 c.requires.points.1 _ c.size-span.ensures
 
 pub returns : goal.returns
-returns c = record { values = product_there _ _ _ c.requires.sizes.0 c.requires.sizes.1 c.requires.sizes.2 c.requires.sizes.3 c.requires.sizes.4 c.requires.points.0 c.requires.points.1 _ c.size-span.ensures _ c.multiply_out.auto.cells c.multiply_out.ensures; rest = rest_stays _ _ _ c.requires.sizes.0 c.requires.sizes.1 c.requires.sizes.2 c.requires.sizes.3 c.requires.sizes.4 c.requires.points.0 c.requires.points.1 _ c.size-span.ensures _ c.multiply_out.auto.cells c.multiply_out.ensures }
+returns c = record { coefficients = product_there _ _ _ c.requires.sizes.0 c.requires.sizes.1 c.requires.sizes.2 c.requires.sizes.3 c.requires.sizes.4 c.requires.points.0 c.requires.points.1 _ c.size-span.ensures _ c.multiply_out.auto.cells c.multiply_out.ensures; rest = rest_stays _ _ _ c.requires.sizes.0 c.requires.sizes.1 c.requires.sizes.2 c.requires.sizes.3 c.requires.sizes.4 c.requires.points.0 c.requires.points.1 _ c.size-span.ensures _ c.multiply_out.auto.cells c.multiply_out.ensures }

@@ -1,3 +1,4 @@
+-- What the loop of `bundle_first_pass::write_plain` keeps true, and what falls with each turn.
 use mathlib.Core.Path.{◌≡◌}
 use Prim.Native.Nat.{◌-◌, ◌≤◌}
 use lib.ListN.{length}

@@ -1,3 +1,4 @@
+-- What the loop of `decode_block::multiply_in` keeps true, and what falls with each turn.
 use Prim.Native.Nat.{◌-◌, ◌≤◌}
 use lib.ListN.{length}
 use Rattle.decode_block.specs.Multiplied.{Multiplied}

@@ -22,8 +22,9 @@ returns-then-missing-eq0 c =
 
 pub lay_product-requires : goal.lay_product-requires
 lay_product-requires c =
-    let all = let p = c.requires in
-    product_asked _ _ _ p.0 p.1 p.2 _ _ c.size-size.ensures c.size-step.ensures _ _ c.begin-missing.auto.cells c.begin-missing.ensures.missing c.begin-missing.ensures.points c.begin-missing.ensures.powers (omega (arith, c.if-missing-eq0.false)) in record { sizes = all.0; points = all.1 }
+    let p = c.requires in
+    let asked = product_asked _ _ _ p.0 p.1 p.2 _ _ c.size-size.ensures c.size-step.ensures _ _ c.begin-missing.auto.cells c.begin-missing.ensures.missing c.begin-missing.ensures.points c.begin-missing.ensures.powers (omega (arith, c.if-missing-eq0.false)) in
+    record { sizes = asked.0; points = asked.1 }
 
 pub weigh-requires : goal.weigh-requires
 weigh-requires c =

@@ -1,3 +1,4 @@
+-- What falls from a call of `transform_halving::halve` to the calls of itself in it.
 use Rattle.std.proofs.Common.{length}
 use Rattle.transform_halving.proofs.+halve.Given as goal
 

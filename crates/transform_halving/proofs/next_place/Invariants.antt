@@ -1,3 +1,4 @@
+-- What the loop of `transform_halving::next_place` keeps true, and what falls with each turn.
 use mathlib.Core.Path.{◌≡◌}
 use Prim.Native.Nat.{ℕ, ◌+◌, ◌^◌, ◌/◌, ◌≤◌}
 use Rattle.transform_halving.specs.Order.{reversed}

@@ -1,3 +1,4 @@
+-- What falls from a call of `transform_table::halve_by` to the calls of itself in it.
 use Rattle.transform_table.proofs.+halve_by.Given as goal
 
 abbrev pub decreases-halve_by : goal.decreases-halve_by

@@ -1,3 +1,4 @@
+-- What the loop of `transform_table::join_by` keeps true, and what falls with each turn.
 use mathlib.Core.Path.{◌≡◌}
 use mathlib.Core.List.{List}
 use Prim.Native.Nat.{ℕ, ◌+◌, ◌-◌, ◌*◌, ◌≤◌}

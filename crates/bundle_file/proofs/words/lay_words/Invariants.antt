@@ -1,3 +1,4 @@
+-- What the loop of `bundle_file::words::lay_words` keeps true, and what falls with each turn.
 use mathlib.Core.Path.{◌≡◌}
 use Prim.Native.Nat.{◌+◌, ◌*◌, ◌-◌, ◌≤◌}
 use lib.ListN.{length}

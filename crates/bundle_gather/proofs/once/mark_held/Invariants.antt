@@ -1,3 +1,4 @@
+-- What the loop of `bundle_gather::once::mark_held` keeps true, and what falls with each turn.
 use mathlib.Core.Path.{◌≡◌}
 use Prim.Native.Nat.{◌-◌, ◌≤◌}
 use Rattle.bundle_gather.specs.Gathering.{marks_in}

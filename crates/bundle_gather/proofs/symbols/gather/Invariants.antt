@@ -1,3 +1,4 @@
+-- What the loop of `bundle_gather::symbols::gather` keeps true, and what falls with each turn.
 use Prim.Native.Nat.{◌-◌, ◌≤◌}
 use Rattle.bundle_gather.proofs.Gathering.{Passed}
 use Rattle.bundle_gather.proofs.symbols.gather.Given as goal

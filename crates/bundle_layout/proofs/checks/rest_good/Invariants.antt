@@ -1,3 +1,4 @@
+-- What the loop of `bundle_layout::checks::rest_good` keeps true, and what falls with each turn.
 use mathlib.Core.Path.{◌≡◌}
 use mathlib.Core.Bool.{false}
 use Prim.Native.Nat.{ℕ, ◌≤◌, ◌<◌, ◌-◌}

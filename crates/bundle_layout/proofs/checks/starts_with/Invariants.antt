@@ -1,3 +1,4 @@
+-- What the loop of `bundle_layout::checks::starts_with` keeps true, and what falls with each turn.
 use mathlib.Core.Path.{◌≡◌}
 use mathlib.Core.Bool.{not, false}
 use Prim.Native.Nat.{ℕ, ◌≤◌, ◌<◌, ◌-◌}

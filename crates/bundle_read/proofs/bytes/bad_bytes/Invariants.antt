@@ -1,3 +1,4 @@
+-- What the loop of `bundle_read::bytes::bad_bytes` keeps true, and what falls with each turn.
 use mathlib.Core.Path.{◌≡◌}
 use Prim.Native.Nat.{ℕ, ◌*◌, ◌≤◌, ◌<◌, ◌-◌}
 use lib.ListN.{length, get_or}

@@ -1,3 +1,4 @@
+-- What the loop of `bundle_write::bodies::store_block` keeps true, and what falls with each turn.
 use mathlib.Core.Path.{◌≡◌}
 use Prim.Native.Nat.{ℕ, suc, ◌<◌, ◌-◌, ◌≤◌}
 use lib.ListN.{length}

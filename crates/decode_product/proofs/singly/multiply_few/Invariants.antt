@@ -1,3 +1,4 @@
+-- What the loop of `decode_product::singly::multiply_few` keeps true, and what falls with each turn.
 use Rattle.decode_product.proofs.Stepping.{Stepped}
 use Rattle.decode_product.proofs.singly.multiply_few.Given as goal
 

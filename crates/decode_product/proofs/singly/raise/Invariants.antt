@@ -1,3 +1,4 @@
+-- What the loop of `decode_product::singly::raise` keeps true, and what falls with each turn.
 use mathlib.Core.Path.{◌≡◌}
 use mathlib.Core.List.{List, ◌∷◌}
 use Prim.Native.Nat.{ℕ, ◌-◌, ◌<◌, ◌≤◌}

@@ -1,3 +1,4 @@
+-- What the loop of `field::arithmetic::power` keeps true, and what falls with each turn.
 use Prim.Native.Nat.{◌*◌, ◌^◌, ◌<◌}
 use Rattle.field.specs.Congruence.{◌≈◌}
 use Rattle.field.proofs.arithmetic.power.Given as goal

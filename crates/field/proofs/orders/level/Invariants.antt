@@ -1,3 +1,4 @@
+-- What the loop of `field::orders::level` keeps true, and what falls with each turn.
 use mathlib.Core.Path.{◌≡◌}
 use mathlib.Core.Bool.{false}
 use Prim.Native.Nat.{ℕ, ◌≤◌, ◌<◌, ◌-◌, ◌^◌}

@@ -2,13 +2,16 @@
 -- Assumes nothing.
 use mathlib.Core.Path.{◌≡◌, refl, sym, ap, ◌∙◌}
 use mathlib.Core.Bool.{Bool, true, false, ◌||◌}
-use mathlib.Core.List.{List}
+use mathlib.Core.List.{List, []}
 use Prim.Native.Nat.{ℕ, ◌<◌, ◌≤◌}
 use native.Mathlib.Omega.{arith}
 use borrow.Author.Tests.{lt-ltb, le-ltb}
 use lib.Dec.{ltb}
 use Rattle.answers.specs.Refusals.{Answer, the_result, refused, refuse_if}
 use Rattle.answers.specs.declared.refusal.Refusal.{Refusal}
+use Rattle.std.specs.Prelude.{Some, None}
+use Rattle.answers.specs.First.{found}
+use Rattle.answers.proofs.First.{found_some, found_none}
 use Rattle.answers.proofs.Refusals.{result_no_refusal}
 
 -- a check that did not refuse
@@ -37,3 +40,29 @@ passes_all make place bound later {x = x} e h rest = goes_on (make place) later 
 pub or_false : (a b : Bool) → a || b ≡ false → (a ≡ false) × (b ≡ false)
 or_false true b e = absurd (let z : ◌≡◌ {A = ℕ} 0 1 = cc in omega arith)
 or_false false b e = (refl, e)
+
+-- the same where a search answers whether there is such an index
+
+pub stops_found : (make : ℕ → Refusal) (place bound : ℕ) (later : Answer) (i : ℕ) → Some i ≡ found bound place
+    → refused (make i) ≡ refuse_if (ltb place bound) (make place) later
+stops_found make place bound later i is = let here = found_some bound place (sym is) in stops_at make place bound later here.0 (omega (arith, here))
+
+pub passes_found : (make : ℕ → Refusal) (place bound : ℕ) (later : Answer) {a : Answer} → None ≡ found bound place → a ≡ later
+    → a ≡ refuse_if (ltb place bound) (make place) later
+passes_found make place bound later is rest = passes_all make place bound later refl (found_none bound place (sym is)) rest
+
+-- a check that a function of its own makes, before the later ones
+
+module _ (bad : Bool) (r : Refusal) where
+  pub check_passed : the_result [] ≡ refuse_if bad r (the_result []) → bad ≡ false
+  check_passed is = (passed bad r (the_result []) [] (sym is)).0
+
+  pub check_goes_on : (later : Answer) {a : Answer} → the_result [] ≡ refuse_if bad r (the_result []) → a ≡ later → a ≡ refuse_if bad r later
+  check_goes_on later is rest = goes_on r later (check_passed is) rest
+
+pub check_stops : (bad : Bool) (r x : Refusal) (later : Answer) → refused x ≡ refuse_if bad r (the_result []) → refused x ≡ refuse_if bad r later
+check_stops true r x later is = is
+check_stops false r x later is = absurd (result_no_refusal (sym is))
+
+-- what a function is proved by that makes its checks in their order
+pub ruleset in_order = (stops, goes_on, stops_found, passes_found)

@@ -6,10 +6,9 @@ use Prim.Native.Nat.{ℕ, ◌-◌, ◌≤◌}
 use native.Mathlib.Omega.{arith}
 use lib.ListN.{length, take, drop, replicate, drop_of_length-le}
 use lib.Seq.{length-take-le}
+use Rattle.std.specs.Prelude.{⊤, Result, Ok, Err}
 use Rattle.answers.specs.Leaves.{Leaves, leaving, unless_refused, zeroed, OutcomeSettled}
 use Rattle.answers.specs.Refusals.{Answer, the_result, refused, told_outcome}
-use Rattle.answers.specs.declared.refusal.Outcome.{Outcome}
-use Rattle.answers.specs.declared.refusal.Outcome.TheVariants.{Done, Refused}
 use Rattle.answers.specs.declared.refusal.Refusal.{Refusal}
 use Rattle.answers.proofs.Refusals.{told_outcome_one}
 
@@ -23,11 +22,11 @@ outcome_settled it r s l m w v p q =
 
 -- what the checks answer, where the code's outcome is known
 
-pub told_done : (a : Answer) (o : Outcome) → told_outcome o ≡ a → o ≡ Done → a ≡ the_result []
-told_done a o told done = sym told ∙ ap told_outcome done
+pub told_done : (a : Answer) (o : Result ⊤ Refusal) {u : ⊤} → told_outcome o ≡ a → o ≡ Ok u → a ≡ the_result []
+told_done a o is done = sym is ∙ ap told_outcome done
 
-pub told_refused : (a : Answer) (o : Outcome) (x : Refusal) → told_outcome o ≡ a → o ≡ Refused x → a ≡ refused x
-told_refused a o x told done = sym told ∙ ap told_outcome done
+pub told_refused : (a : Answer) (o : Result ⊤ Refusal) (x : Refusal) → told_outcome o ≡ a → o ≡ Err x → a ≡ refused x
+told_refused a o x is done = sym is ∙ ap told_outcome done
 
 -- what a call leaves where its checks refused, and where they passed
 

@@ -1,7 +1,5 @@
 -- Numbers a refusal carries (document 01, under that heading).
-use Rattle.std.specs.Prelude.{Bool, cond, List, [], ℕ}
-use Rattle.answers.specs.declared.refusal.Outcome.{Outcome}
-use Rattle.answers.specs.declared.refusal.Outcome.TheVariants.{Done, Refused}
+use Rattle.std.specs.Prelude.{Bool, cond, List, [], ℕ, ⊤, Result, Ok, Err}
 use Rattle.answers.specs.declared.refusal.Refusal.{Refusal}
 use Rattle.answers.specs.declared.refusal.Refusal.TheVariants.{Shape, Length, Room, Few, Position, Repeat, Value, Disagree, Word, Tail, Form}
 
@@ -49,7 +47,11 @@ abbrev pub after : Answer → Answer → Answer
 after (refusal n i) later = refusal n i
 after (the_result vs) later = later
 
--- an outcome of the code, on paper: its result lies in lent memory
-abbrev pub told_outcome : Outcome → Answer
-told_outcome Done = the_result []
-told_outcome (Refused x) = refused x
+-- an answer of the code, on paper: its value as the numbers that the caller gets, or its refusal
+abbrev pub told : {T : Type 0} → (T → List ℕ) → Result T Refusal → Answer
+told numbers (Ok x) = the_result (numbers x)
+told numbers (Err x) = refused x
+
+-- the same where the result lies in lent memory
+abbrev pub told_outcome : Result ⊤ Refusal → Answer
+told_outcome = told (λ x. [])

@@ -1,27 +1,30 @@
 -- What the checks of encode and decode let through, both ways: a call that they pass can be worked on, and one that can be passes them.
 -- Assumes nothing.
 use mathlib.Core.Path.{◌≡◌, refl, sym}
-use mathlib.Core.Bool.{not, ◌||◌}
+use mathlib.Core.Bool.{false, not, ◌||◌}
 use mathlib.Core.List.{List, []}
 use Prim.Native.Nat.{ℕ, ◌≤◌}
 use native.Mathlib.Nat.{le_of_eq}
 use borrow.Author.Tests.{ltb-false, eqb-true, not-false, le-ltb, eq-eqb}
-use lib.Dec.{ltb, eqb}
+use lib.Dec.{ltb, leb, eqb}
 use lib.ListN.{length}
 use Rattle.answers.specs.Refusals.{the_result}
-use Rattle.limits.specs.Shape.{bad_shape}
+use Rattle.std.specs.List.{position}
+use Rattle.std.specs.Prelude.{None}
+use Rattle.limits.specs.Shape.{bad_shape, longest}
 use Rattle.limits.specs.Values.{first_above}
 use Rattle.answers.specs.declared.refusal.Refusal.TheVariants.{Shape, Length, Room, Few, Position, Repeat, Value}
-use Rattle.answers.proofs.Checks.{passed, or_false}
+use Rattle.answers.proofs.Checks.{passed, or_false, in_order}
+use Rattle.limits.proofs.Shape.{shape_good}
 use Rattle.limits.proofs.Values.{all_symbols, none_above}
 use Rattle.block.specs.Checks.{encode_checks, decode_checks}
 use Rattle.code.specs.Held.{held}
-use Rattle.code.specs.Positions.{first_outside}
+use Rattle.code.specs.Positions.{Inside, first_outside}
 use Rattle.code.specs.Codable.{Codable}
 use Rattle.code.specs.Decodable.{Decodable}
 use Rattle.code.specs.Repeats.{first_repeat}
 use Rattle.code.specs.Rooms.{encode_work, decode_work}
-use Rattle.code_positions.proofs.Outside.{outside_none, none_outside}
+use Rattle.code_positions.proofs.Outside.{outside_none, none_outside, outside_stops, outside_goes_on, none_outside_below}
 use Rattle.code_positions.proofs.Repeating.{repeat_none, none_repeat}
 
 pub encode_passed : (k n : ℕ) (message : List ℕ) (out work : ℕ) → encode_checks k n message out work ≡ the_result []
@@ -91,3 +94,10 @@ decode_passes k n positions values out work able enough room =
       le-ltb (first_repeat positions) (length positions) (le_of_eq (sym (none_repeat positions able.apart))),
       le-ltb (first_above values) (length values) (le_of_eq (sym (none_above values able.symbols))),
     )
+
+-- REPEAT is looked for where SHAPE and POSITION have passed
+pub inside_longest : (k n : ℕ) (positions : List ℕ) → bad_shape k n ≡ false → None ≡ position (leb n) positions → Inside longest positions
+inside_longest k n positions shape none = none_outside_below n longest positions none (shape_good k n shape).2
+
+-- what decode's checks are proved by
+pub ruleset positions_in_order = (in_order, outside_stops, outside_goes_on, inside_longest)

@@ -7,26 +7,30 @@ ghost use Rattle.block.specs.Calls.{encode_leaves, decode_leaves};
 
 use crate::checks;
 use crate::rooms::{decode_work, encode_work};
-use answers::Outcome;
+use answers::Refusal;
 use code::spread;
 use decode_block::recover;
 
 // The code word e_i = s(r^i) of the message, for i = 0 .. n - 1, at the output's front.
-pub fn encode(k: usize, n: usize, message: &[u32], out: &mut [u32], work: &mut [u32]) -> Outcome
+#[tactic(auto, using(crate::proofs::Calling::encoding))]
+pub fn encode(
+    k: usize,
+    n: usize,
+    message: &[u32],
+    out: &mut [u32],
+    work: &mut [u32],
+) -> Result<(), Refusal>
     ensures { leaving (told_outcome result) out.new work.new
         ≡ encode_leaves k n message.now out.old work.old }
 {
-    match checks::encode_checks(k, n, message, out.len(), work.len()) {
-        Outcome::Done => {
-            let stated = encode_work(n);
-            spread(n, message, out, &mut work[0..stated]);
-            Outcome::Done
-        }
-        Outcome::Refused(refusal) => Outcome::Refused(refusal),
-    }
+    checks::encode_checks(k, n, message, out.len(), work.len())?;
+    let stated = encode_work(n);
+    spread(n, message, out, &mut work[0..stated]);
+    Ok(())
 }
 
 // The message that fits all the symbols given, at the output's front; DISAGREE where none does.
+#[tactic(auto, using(crate::proofs::Calling::decoding))]
 pub fn decode(
     k: usize,
     n: usize,
@@ -34,15 +38,11 @@ pub fn decode(
     values: &[u32],
     out: &mut [u32],
     work: &mut [u32],
-) -> Outcome
+) -> Result<(), Refusal>
     ensures { leaving (told_outcome result) out.new work.new
         ≡ decode_leaves k n positions.now values.now out.old work.old }
 {
-    match checks::decode_checks(k, n, positions, values, out.len(), work.len()) {
-        Outcome::Done => {
-            let stated = decode_work(n);
-            recover(k, n, positions, values, out, &mut work[0..stated])
-        }
-        Outcome::Refused(refusal) => Outcome::Refused(refusal),
-    }
+    checks::decode_checks(k, n, positions, values, out.len(), work.len())?;
+    let stated = decode_work(n);
+    recover(k, n, positions, values, out, &mut work[0..stated])
 }

@@ -4,30 +4,34 @@ ghost use Rattle.answers.specs.Refusals.{told_outcome};
 ghost use Rattle.block.specs.Checks.{encode_checks, decode_checks};
 
 use crate::rooms::{decode_work, encode_work};
-use answers::{Outcome, Refusal};
+use answers::Refusal;
 use code_positions::{first_outside, first_repeat};
-use limits::{bad_shape, first_above, too_short};
+use limits::{bad_shape, check_symbols, too_short};
 
 // out and work are the lengths of the output and of the working space.
-pub fn encode_checks(k: usize, n: usize, message: &[u32], out: usize, work: usize) -> Outcome
+#[tactic(auto, using(answers::proofs::Checks::in_order), unfolding(crate::specs::Checks::encode_checks))]
+pub fn encode_checks(
+    k: usize,
+    n: usize,
+    message: &[u32],
+    out: usize,
+    work: usize,
+) -> Result<(), Refusal>
     ensures { told_outcome result ≡ encode_checks k n message.now out work }
 {
     if bad_shape(k, n) {
-        return Outcome::Refused(Refusal::Shape);
+        return Err(Refusal::Shape);
     }
     if message.len() != k {
-        return Outcome::Refused(Refusal::Length);
+        return Err(Refusal::Length);
     }
     if too_short(out, n, work, encode_work(n)) {
-        return Outcome::Refused(Refusal::Room);
+        return Err(Refusal::Room);
     }
-    let above = first_above(message);
-    if above < message.len() {
-        return Outcome::Refused(Refusal::Value(above));
-    }
-    Outcome::Done
+    check_symbols(message)
 }
 
+#[tactic(auto, using(crate::proofs::Passing::positions_in_order), unfolding(crate::specs::Checks::decode_checks, code::specs::Held::held))]
 pub fn decode_checks(
     k: usize,
     n: usize,
@@ -35,32 +39,26 @@ pub fn decode_checks(
     values: &[u32],
     out: usize,
     work: usize,
-) -> Outcome
+) -> Result<(), Refusal>
     ensures { told_outcome result ≡ decode_checks k n positions.now values.now out work }
 {
     if bad_shape(k, n) {
-        return Outcome::Refused(Refusal::Shape);
+        return Err(Refusal::Shape);
     }
     if positions.len() != values.len() {
-        return Outcome::Refused(Refusal::Length);
+        return Err(Refusal::Length);
     }
     if too_short(out, k, work, decode_work(n)) {
-        return Outcome::Refused(Refusal::Room);
+        return Err(Refusal::Room);
     }
     if positions.len() < k {
-        return Outcome::Refused(Refusal::Few);
+        return Err(Refusal::Few);
     }
-    let outside = first_outside(n, positions);
-    if outside < positions.len() {
-        return Outcome::Refused(Refusal::Position(outside));
+    if let Some(i) = first_outside(n, positions) {
+        return Err(Refusal::Position(i));
     }
-    let repeat = first_repeat(positions);
-    if repeat < positions.len() {
-        return Outcome::Refused(Refusal::Repeat(repeat));
+    if let Some(i) = first_repeat(positions) {
+        return Err(Refusal::Repeat(i));
     }
-    let above = first_above(values);
-    if above < values.len() {
-        return Outcome::Refused(Refusal::Value(above));
-    }
-    Outcome::Done
+    check_symbols(values)
 }

@@ -5,6 +5,7 @@ pub mod Walking
 pub mod Taking
 pub mod Shadowing
 pub mod Settling
+pub mod Writing
 pub mod Demands
 pub mod Worked
 pub mod Coders

@@ -6,10 +6,11 @@ use mathlib.Core.List.{List, [], ◌∷◌, ◌++◌}
 use Prim.Native.Nat.{ℕ, zero, suc, ◌+◌, ◌-◌, ◌*◌, ◌<◌, ◌≤◌}
 use native.Mathlib.Decide.{dec_lt}
 use native.Mathlib.Omega.{arith}
-use borrow.Author.Tests.{eq-eqb, ne_eqb, eqb-true, not-false}
+use borrow.Author.Tests.{eq-eqb, eqb-true, not-false}
 use lib.Dec.{eqb}
-use lib.ListN.{length, get_or, take, drop, replicate, length-append, length-drop, length-replicate, get_or-append}
-use lib.Seq.{length-take-le, get_or-take, get_or-drop, get_or-append-add}
+use Rattle.std.proofs.Common.{◌↔◌, EachIndex}
+use lib.ListN.{length, get_or, take, drop, length-append, length-drop, get_or-append}
+use lib.Seq.{length-take-le, get_or-take, get_or-drop}
 use Rattle.field.specs.Size.{size_of}
 use Rattle.field.proofs.Sizes.{size_enough}
 use Rattle.lists.proofs.Tab.{tab_at}
@@ -21,18 +22,29 @@ use Rattle.bundle_storage.proofs.RisingLaws.{none_found, found_none}
 use Rattle.bundle_storage.proofs.Storing.{overflow_count}
 use Rattle.bundle_file.specs.File.{message_at, symbol_at}
 use Rattle.bundle_file.specs.Counts.{tallied, none_counted, Coded, Counted}
-use Rattle.bundle_file.proofs.Padding.{zeros_behind}
 
 pub n_fits : (k n L : ℕ) → bad_bundle_shape k n L ≡ false → n ≤ size_of n
 n_fits k n L shape = size_enough n (omega (arith, limits k n L shape))
 
-pub tallied_over : (count x : ℕ) → x ≡ 65536 → count + 1 ≡ tallied count x
-unfolding tallied
-tallied_over count x over = rw (eq-eqb x 65536 over)
+-- two tests of which each tells the other
+same_test : (s t : Bool) → (s ≡ true → t ≡ true) → (t ≡ true → s ≡ true) → s ≡ t
+same_test true t there back = sym (there refl)
+same_test false true there back = back refl
+same_test false false there back = refl
 
-pub tallied_not : (count x : ℕ) → (x ≡ 65536 → ⊥) → count ≡ tallied count x
-unfolding tallied
-tallied_not count x low = rw (ne_eqb x 65536 low) (omega arith)
+-- counts is the n counts as they are lent, and t tells whether each of them is 0
+pub all_none : (n size : ℕ) (cells counts : List ℕ) (t : Bool) → size + n ≤ length cells → counts ≡ take (size + n - size) (drop size cells)
+    → (t ≡ true ↔ EachIndex counts (λ i. get_or counts i 0 ≡ 0)) → t ≡ none_counted n size cells
+unfolding none_counted
+all_none n size cells counts t room is told =
+    same_test t _ (λ yes. found_none n _ (λ i h. simp (eq-eqb (get_or cells (size + i) 0) 0 (sym (here i h) ∙ told.0 yes i (omega (arith, long))))))
+    (λ none. told.1 (λ i h. here i (omega (arith, long)) ∙ eqb-true (get_or cells (size + i) 0) 0 (not-false _ (none_found n _ none i (omega (arith, long))))))
+  where
+    long : length counts ≡ n
+    long = ap length is ∙ length-take-le (size + n - size) (drop size cells) (omega (arith, length-drop size cells)) ∙ omega arith
+
+    here : (i : ℕ) → i < n → get_or counts i 0 ≡ get_or cells (size + i) 0
+    here i h = ap (λ (l : List ℕ). get_or l i 0) is ∙ get_or-take (size + n - size) (drop size cells) i 0 (omega arith) ∙ get_or-drop size cells i 0
 
 pub count_next : (e : ℕ → ℕ) (b : ℕ) → count_of (suc b) e ≡ tallied (count_of b e) (e b)
 unfolding count_of overflows tallied
@@ -51,42 +63,29 @@ count_up e b (suc B) h =
       | no less ↦ omega (arith, count_up e b B (omega arith), count_next e B)
     ]
 
--- what stands in a list's second part
-past : (p q : List ℕ) (S i : ℕ) → length p ≡ S → get_or (p ++ q) (S + i) 0 ≡ get_or q i 0
-past p q S i is = ap (λ (m : ℕ). get_or (p ++ q) (m + i) 0) (sym is) ∙ get_or-append-add p q i 0
-
 -- S is N
-module _ (n S : ℕ) (cells : List ℕ) (size : S ≡ size_of n) (enough : n ≤ size_of n) where
-  -- zeros is what the cells from N on hold once they are cleared
-  pub cleared : (zeros : List ℕ) → length cells ≡ 2 * size_of n → zeros ≡ replicate (length (take (length cells - S) (drop S cells))) 0 → (i : ℕ)
-      → i < n → get_or (take S cells ++ (zeros ++ drop (length cells - S) (drop S cells))) (size_of n + i) 0 ≡ 0
-  cleared zeros long is i h =
-      let some = length (take (length cells - S) (drop S cells)) in
-      past (take S cells) _ (size_of n) i (length-take-le S cells (omega arith) ∙ size)
-      ∙ get_or-append zeros _ 0 i
-      (omega (arith, ap length is, length-replicate {A = ℕ} some 0, length-take-le (length cells - S) (drop S cells) (omega (arith, length-drop S cells))))
-      ∙ ap (λ (l : List ℕ). get_or l i 0) is
-      ∙ zeros_behind [] some i
-
+module _ (n S : ℕ) (cells : List ℕ) (size : (S ≡ size_of n) × (n ≤ S)) where
   module _ (k : ℕ) (file : List ℕ) (b : ℕ) (counted : Counted k n file b cells) where
     -- word is what the first N cells hold after a block is coded there
     pub coded : (word : List ℕ) → length word ≡ length (take (S - 0) cells) → take n word ≡ code_word n (message_at k file b)
-        → Coded k n file b (word ++ drop (S - 0) cells) × Counted k n file b (word ++ drop (S - 0) cells)
+        → Coded k n file b (word ++ drop (S - 0) cells)
     unfolding code_word symbol_at
-    coded word kept is =
-        let long : length word ≡ size_of n = kept ∙ length-take-le (S - 0) cells (omega (arith, counted.long)) ∙ omega arith in (
-          λ i h. get_or-append word _ 0 i (omega arith) ∙ sym (get_or-take n word i 0 h) ∙ ap (λ (l : List ℕ). get_or l i 0) is ∙ tab_at n _ i h,
-          record {
-            long = omega (arith, length-append word (drop (S - 0) cells), length-drop (S - 0) cells, counted.long);
-            counts = λ i h.
-                past word _ (size_of n) i long ∙ get_or-drop (S - 0) cells i 0
-                ∙ ap (λ (m : ℕ). get_or cells (m + i) 0) {x = S - 0} {y = size_of n} (omega arith)
-                ∙ counted.counts i h;
-          },
-        )
+    coded word kept is i h =
+        let long : length word ≡ size_of n = kept ∙ length-take-le (S - 0) cells (omega (arith, counted.long, size.0)) ∙ omega (arith, size.0) in
+        get_or-append word _ 0 i (omega (arith, size)) ∙ sym (get_or-take n word i 0 h) ∙ ap (λ (l : List ℕ). get_or l i 0) is ∙ tab_at n _ i h
 
     pub count_here : (i : ℕ) → i < n → get_or cells (S + i) 0 ≡ count_of b (symbol_at k n file i)
-    count_here i h = ap (λ (m : ℕ). get_or cells (m + i) 0) size ∙ counted.counts i h
+    count_here i h = ap (λ (m : ℕ). get_or cells (m + i) 0) size.0 ∙ counted.counts i h
+
+    -- the n counts as they are lent
+    pub counts_length : length (take (S + n - S) (drop S cells)) ≡ n
+    counts_length = length-take-le (S + n - S) (drop S cells) (omega (arith, length-drop S cells, counted.long, size)) ∙ omega arith
+
+    pub count_lent : (i : ℕ) → i < length (take (S + n - S) (drop S cells))
+        → (i < n) × (get_or (take (S + n - S) (drop S cells)) i 0 ≡ count_of b (symbol_at k n file i))
+    count_lent i h =
+        let inside : i < n = omega (arith, counts_length) in
+        (inside, get_or-take (S + n - S) (drop S cells) i 0 (omega arith) ∙ get_or-drop S cells i 0 ∙ count_here i inside)
 
     pub none_over : none_counted n S cells ≡ true → (i : ℕ) → i < n → count_of b (symbol_at k n file i) ≡ 0
     unfolding none_counted
@@ -102,7 +101,7 @@ module _ (n S : ℕ) (cells : List ℕ) (size : S ≡ size_of n) (enough : n ≤
 
     -- what `tally` asks
     pub tally_asked : b < 65536 → (n ≤ S) × (length cells ≡ 2 * S) × ((i : ℕ) → i < n → get_or cells (S + i) 0 < 65536)
-    tally_asked few = (omega arith, omega (arith, counted.long), counts_low few)
+    tally_asked few = (size.1, omega (arith, counted.long, size.0), counts_low few)
 
     -- after is what the cells hold once the symbols are counted
     pub counted_more : (after : List ℕ) → Coded k n file b cells → length after ≡ length cells
@@ -111,7 +110,7 @@ module _ (n S : ℕ) (cells : List ℕ) (size : S ≡ size_of n) (enough : n ≤
         record {
           long = kept ∙ counted.long;
           counts = λ i h.
-              ap (λ (m : ℕ). get_or after (m + i) 0) (sym size)
+              ap (λ (m : ℕ). get_or after (m + i) 0) (sym size.0)
               ∙ is i h
               ∙ ap₂ tallied (count_here i h) (front i h)
               ∙ sym (count_next (symbol_at k n file i) b);
@@ -121,3 +120,14 @@ pub counted_none : (k n : ℕ) (file cells : List ℕ) → length cells ≡ 2 * 
     → Counted k n file 0 cells
 unfolding count_of overflows
 counted_none k n file cells long none = record { long = long; counts = none }
+
+-- the symbols of a block as they are lent
+
+pub symbols_length : (n : ℕ) (cells : List ℕ) → n ≤ length cells → length (take (n - 0) cells) ≡ n
+symbols_length n cells room = length-take-le (n - 0) cells (omega arith) ∙ omega arith
+
+pub symbol_lent : (k n : ℕ) (file : List ℕ) (b : ℕ) (cells : List ℕ) → n ≤ length cells → Coded k n file b cells → (i : ℕ)
+    → i < length (take (n - 0) cells) → (i < n) × (get_or (take (n - 0) cells) i 0 ≡ symbol_at k n file i b)
+symbol_lent k n file b cells room front i h =
+    let inside : i < n = omega (arith, symbols_length n cells room) in
+    (inside, get_or-take (n - 0) cells i 0 (omega arith) ∙ front i inside)

@@ -15,11 +15,12 @@ use Rattle.lists.proofs.Tab.{tab_ext}
 use Rattle.transform_halving.specs.Transformable.{Transformable}
 use Rattle.transform_halving.specs.Transform.{transform_of}
 use Rattle.code.specs.Codable.{Codable}
+use Rattle.code.specs.Message.{IsMessage}
 use Rattle.code.specs.Code.{code_word}
 use Rattle.code.proofs.Spreading.{laid, full, full_transformable, kept_front}
-use Rattle.bundle_storage.specs.Bytes.{Bytes, two_at}
+use Rattle.bundle_storage.specs.Bytes.{two_at}
 use Rattle.bundle_file.specs.File.{message_at}
-use Rattle.bundle_file.proofs.Padding.{padded_at, message_length, message_is}
+use Rattle.bundle_file.proofs.Padding.{padded_at, message_length}
 
 module _ (k : ℕ) (file : List ℕ) (b : ℕ) where
   message_words : message_at k file b ≡ tab k (λ i. two_at file (2 * (k * b) + 2 * i))
@@ -48,14 +49,13 @@ module _ (k : ℕ) (file : List ℕ) (b : ℕ) where
       (ap (λ (m : ℕ). drop m cells) {x = k - 0} {y = length message} (omega (arith, message_length k file b)))))
 
   -- cells is what they hold once the message is laid out
-  module _ (n : ℕ) (cells : List ℕ) (size : ℕ) (bytes : Bytes file) (shape : bad_shape k n ≡ false) (long : size ≡ size_of n) (is : cells ≡ message_at k file b ++ replicate (size - k) 0) where
+  module _ (n : ℕ) (cells : List ℕ) (size : ℕ) (message : IsMessage k (message_at k file b)) (shape : bad_shape k n ≡ false) (long : size ≡ size_of n) (is : cells ≡ message_at k file b ++ replicate (size - k) 0) where
     codable : Codable n (message_at k file b)
-    codable =
-        record { shape = ap (λ (m : ℕ). bad_shape m n) (message_length k file b) ∙ shape; symbols = (message_is k file bytes b).symbols }
+    codable = record { shape = ap (λ (m : ℕ). bad_shape m n) message.long ∙ shape; symbols = message.symbols }
 
     coefficients : cells ≡ full n (message_at k file b) codable
     unfolding full
-    coefficients = is ∙ ap₂ (λ (N m : ℕ). message_at k file b ++ replicate (N - m) 0) long (sym (message_length k file b))
+    coefficients = is ∙ ap₂ (λ (N m : ℕ). message_at k file b ++ replicate (N - m) 0) long (sym message.long)
 
     pub block_transformable : Transformable cells
     block_transformable = subst Transformable (sym coefficients) (full_transformable n (message_at k file b) codable)

@@ -3,6 +3,8 @@
 #![tactic(auto)]
 
 mod counts;
+mod source;
 mod words;
 
 pub use counts::{clear_counts, code_front, none_counted, tally};
+pub use source::Source;

@@ -66,7 +66,7 @@ module _ (k n : ℕ) (file : List ℕ) where
 
     -- start is the output before the block, out before the turn, after behind it
     module _ (b : ℕ) (l : b < blocks_of k (length file)) (start out : List ℕ) (before : Plain k n file b start) (on : Plainly k n file start out) where
-      pub still_room : length (file_bundle k n file) ≤ length out
+      still_room : length (file_bundle k n file) ≤ length out
       still_room = omega (arith, before.room, on.long)
 
       module _ (x : ℕ) (symbol : x ≡ symbol_at k n file i b) (after : List ℕ) (kept : length after ≡ length out) (is : after ≡ stored at 0 0 b x out) where
@@ -91,10 +91,10 @@ module _ (k n : ℕ) (file : List ℕ) where
             next_filled k n file shape i h b l out still_room start after (on.onward none) (put_is none) (before.bodies none i h) (old none)
 
   -- a symbol of the first b blocks overflowed, as their counts in the cells say: then what is taken for granted does not hold
-  module _ (b : ℕ) (l : b < blocks_of k (length file)) (S : ℕ) (cells : List ℕ) (size : S ≡ size_of n) (enough : n ≤ size_of n) (counted : Counted k n file b cells) (some : none_counted n S cells ≡ false) where
+  module _ (b : ℕ) (l : b < blocks_of k (length file)) (S : ℕ) (cells : List ℕ) (size : (S ≡ size_of n) × (n ≤ S)) (counted : Counted k n file b cells) (some : none_counted n S cells ≡ false) where
     over : NoneOver k n file → ⊥
     over none =
-        let all = none_listed n S cells size enough k file b counted (λ i h. omega (arith, none i h, count_up (symbol_at k n file i) b (blocks_of k (length file)) (omega arith))) in
+        let all = none_listed n S cells size k file b counted (λ i h. omega (arith, none i h, count_up (symbol_at k n file i) b (blocks_of k (length file)) (omega arith))) in
         let z : ◌≡◌ {A = ℕ} 0 1 = cc in
         omega arith
 

@@ -1,55 +1,45 @@
 // What is worked out once for a bundle, before its first block. Of the 8N cells of working space the decoder has the first 4N, 1 / (N·K·M) and the
 // powers of ψ among them; behind them stand the weights M(x), and for each held shadow where its words begin, its cursor and its position.
 // No entry points: the callers have made the checks.
-ghost use Rattle.std.specs.Prelude.{◌≡◌, [], ◌*◌, ◌<◌, ◌≤◌, length};
-ghost use Rattle.answers.specs.Refusals.{the_result};
+ghost use Rattle.std.specs.Prelude.{◌≡◌, ◌*◌, ◌<◌, ◌≤◌, length};
 ghost use Rattle.field.specs.Size.{size_of};
 ghost use Rattle.bundle_layout.specs.Fields.{k_in, n_in, held_in};
-ghost use Rattle.bundle_layout.specs.Layout.{layout_checks};
 ghost use Rattle.bundle_layout.specs.Rooms.{bundle_work};
 ghost use Rattle.bundle_gather.specs.Gathering.{marks_in, missing_in, with_shadow, with_weights, Shadows, Laid};
 
-use bundle_layout::inner::{count_in, held_in, k_in, n_in, offset_in, position_in};
+use bundle_layout::Layout;
 use bundle_storage::words_at;
 use cells::clear;
 use decode_prepare::prepare;
 use field::size;
 
 // Shadow t; size is N.
-fn lay_shadow(bundle: &[u8], size: usize, t: usize, cells: &mut [u32])
-    requires { (layout_checks bundle.now ≡ the_result []) × (t < held_in bundle.now)
-        × (size ≡ size_of (n_in bundle.now)) × (length cells.old ≡ 8 * size) }
-    ensures { cells.new ≡ with_shadow bundle.now size t cells.old }
+fn lay_shadow(bundle: Layout<'_>, size: usize, t: usize, cells: &mut [u32])
+    requires { (t < held_in bundle.bytes.now) × (t < size) × (length cells.old ≡ 8 * size) }
+    ensures { cells.new ≡ with_shadow bundle.entry.bytes.now size t cells.old }
 {
-    let at = offset_in(bundle, t);
-    cells[5 * size + t] = words_at(at, count_in(bundle, t)) as u32;
-    cells[6 * size + t] = at as u32;
-    cells[7 * size + t] = position_in(bundle, t) as u32;
+    let entry = bundle.entry(t);
+    cells[5 * size + t] = words_at(entry.offset, entry.count) as u32;
+    cells[6 * size + t] = entry.offset as u32;
+    cells[7 * size + t] = entry.position as u32;
 }
 
-fn lay_shadows(bundle: &[u8], size: usize, cells: &mut [u32])
-    requires { (layout_checks bundle.now ≡ the_result []) × (size ≡ size_of (n_in bundle.now))
-        × (length cells.old ≡ 8 * size) }
-    ensures { Shadows bundle.now (held_in bundle.now) cells.new }
+fn lay_shadows(bundle: Layout<'_>, size: usize, cells: &mut [u32])
+    requires { (size ≡ size_of (n_in bundle.bytes.now)) × (length cells.old ≡ 8 * size) }
+    ensures { Shadows bundle.entry.bytes.now (held_in bundle.entry.bytes.now) cells.new }
 {
-    let held = held_in(bundle);
-    let mut t = 0;
-    while t < held {
+    for t in 0..bundle.held() {
         lay_shadow(bundle, size, t, cells);
-        t += 1;
     }
 }
 
-fn mark_held(bundle: &[u8], marks: &mut [u32])
-    requires { (layout_checks bundle.now ≡ the_result []) × (length marks.old ≡ size_of (n_in bundle.now)) }
-    ensures { marks.new ≡ marks_in bundle.now (held_in bundle.now) }
+fn mark_held(bundle: Layout<'_>, marks: &mut [u32])
+    requires { length marks.old ≡ size_of (n_in bundle.bytes.now) }
+    ensures { marks.new ≡ marks_in bundle.entry.bytes.now (held_in bundle.entry.bytes.now) }
 {
     clear(marks);
-    let held = held_in(bundle);
-    let mut t = 0;
-    while t < held {
-        marks[position_in(bundle, t)] = 1;
-        t += 1;
+    for t in 0..bundle.held() {
+        marks[bundle.entry(t).position] = 1;
     }
 }
 
@@ -58,28 +48,22 @@ fn keep_weights(size: usize, cells: &mut [u32])
     requires { length cells.old ≡ 8 * size }
     ensures { cells.new ≡ with_weights size cells.old }
 {
-    let from = 4 * size;
-    let mut j = 0;
-    while j < size {
-        cells[from + j] = cells[j];
-        j += 1;
-    }
+    cells.copy_within(0..size, 4 * size);
 }
 
 // Every cursor at the front of its list; what is returned is how many positions are missing.
-pub fn start(bundle: &[u8], cells: &mut [u32]) -> usize
-    requires { (layout_checks bundle.now ≡ the_result []) × (k_in bundle.now ≤ held_in bundle.now)
-        × (length cells.old ≡ bundle_work (n_in bundle.now)) }
-    ensures { (result ≡ length (missing_in bundle.now)) × Laid bundle.now 0 cells.new }
+pub fn start(bundle: Layout<'_>, cells: &mut [u32]) -> usize
+    requires { (k_in bundle.bytes.now ≤ held_in bundle.bytes.now) × (length cells.old ≡ bundle_work (n_in bundle.bytes.now)) }
+    ensures { (result ≡ length (missing_in bundle.entry.bytes.now)) × Laid bundle.entry.bytes.now 0 cells.new }
 {
-    let n = n_in(bundle);
+    let n = bundle.n();
     let size = size(n);
     let marks = 2 * size;
     let powers = 3 * size;
     let weights = 4 * size;
     lay_shadows(bundle, size, cells);
     mark_held(bundle, &mut cells[marks..powers]);
-    let missing = prepare(k_in(bundle), n, &mut cells[0..weights]);
+    let missing = prepare(bundle.k(), n, &mut cells[0..weights]);
     keep_weights(size, cells);
     missing
 }

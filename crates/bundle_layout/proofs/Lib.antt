@@ -1,6 +1,8 @@
 pub mod BlocksLaws
 pub mod Entries
+pub mod Fronts
 pub mod Passing
+pub mod Reading
 pub mod Holding
 pub mod Accepting
 pub mod Accepted

@@ -80,6 +80,9 @@ module _ (k n L : ℕ) (bad : Bool) (judged : bad ≡ bad_bundle_shape k n L) (g
       let told = bundle_shape_told k n L (sym judged ∙ good) in
       ((shape_good k n told.0).2, omega (arith, told.2))
 
+-- what is proved by those two
+pub ruleset measuring = (countable, measurable)
+
 rest_told : (s : List ℕ) → rest_good s ≡ true
     → (first_body (held_in s) ≤ length s) × ((t : ℕ) → t < held_in s → bad_entry s t ≡ false) × (start_of s (held_in s) ≡ length s)
 unfolding rest_good

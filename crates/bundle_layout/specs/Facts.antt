@@ -1,13 +1,12 @@
 -- What a bundle's header and table say, after the tests of its layout.
-use Rattle.std.specs.Prelude.{List, [], ◌∷◌, ℕ, leb}
-use Rattle.answers.specs.Refusals.{Answer, the_result, refused, refuse_if, after}
+use Rattle.std.specs.Prelude.{List, [], ◌∷◌, ℕ, leb, Result}
+use Rattle.answers.specs.Refusals.{Answer, the_result, refuse_if, after, told}
+use Rattle.answers.specs.declared.refusal.Refusal.{Refusal}
 use Rattle.answers.specs.declared.refusal.Refusal.TheVariants.{Position}
 use Rattle.bundle_layout.specs.Fields.{k_in, n_in, length_in, held_in, blocks_in, position_in, count_in, offset_in}
 use Rattle.bundle_layout.specs.Layout.{layout_checks}
-use Rattle.bundle_layout.specs.declared.facts.EntryAnswer.{EntryAnswer}
-use Rattle.bundle_layout.specs.declared.facts.EntryAnswer.TheVariants as E
-use Rattle.bundle_layout.specs.declared.facts.FactsAnswer.{FactsAnswer}
-use Rattle.bundle_layout.specs.declared.facts.FactsAnswer.TheVariants as F
+use Rattle.bundle_layout.specs.declared.facts.Entry.{Entry}
+use Rattle.bundle_layout.specs.declared.facts.Facts.{Facts}
 
 -- k, n, L, how many shadows are held, B
 unfoldable pub facts_answer : List ℕ → Answer
@@ -21,10 +20,8 @@ entry_answer s t =
 
 -- the answers of the code, on paper
 
-abbrev pub told_facts : FactsAnswer → Answer
-told_facts (F.Facts f) = the_result (f.k ∷ f.n ∷ f.length ∷ f.held ∷ f.blocks ∷ [])
-told_facts (F.Refused x) = refused x
+abbrev pub told_facts : Result Facts Refusal → Answer
+told_facts = told (λ f. f.k ∷ f.n ∷ f.length ∷ f.held ∷ f.blocks ∷ [])
 
-abbrev pub told_entry : EntryAnswer → Answer
-told_entry (E.Entry e) = the_result (e.position ∷ e.offset ∷ e.count ∷ [])
-told_entry (E.Refused x) = refused x
+abbrev pub told_entry : Result Entry Refusal → Answer
+told_entry = told (λ e. e.position ∷ e.offset ∷ e.count ∷ [])

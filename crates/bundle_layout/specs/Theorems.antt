@@ -1,5 +1,5 @@
 -- What is proved of the layout, as statements: proofs/Theorems.antt proves each under the same name in small letters.
-use Rattle.std.specs.Prelude.{◌≡◌, List, [], ℕ}
+use Rattle.std.specs.Prelude.{◌≡◌, List, [], ℕ, Result}
 use Rattle.answers.specs.Refusals.{the_result}
 use Rattle.bundle_storage.specs.Bytes.{Bytes}
 use Rattle.bundle_layout.specs.Facts.{told_facts, told_entry, facts_answer, entry_answer}
@@ -7,8 +7,9 @@ use Rattle.bundle_layout.specs.Fields.{k_in, n_in, length_in}
 use Rattle.bundle_layout.specs.Held.{shadows_in, IsBundle}
 use Rattle.bundle_layout.specs.Layout.{layout_checks}
 use Rattle.bundle_layout.specs.Shadows.{Shadow}
-use Rattle.bundle_layout.specs.declared.facts.EntryAnswer.{EntryAnswer}
-use Rattle.bundle_layout.specs.declared.facts.FactsAnswer.{FactsAnswer}
+use Rattle.answers.specs.declared.refusal.Refusal.{Refusal}
+use Rattle.bundle_layout.specs.declared.facts.Entry.{Entry}
+use Rattle.bundle_layout.specs.declared.facts.Facts.{Facts}
 
 -- The container: what the layout's tests let through is exactly the bundles
 
@@ -32,8 +33,8 @@ OneReading =
 -- Two answers of a call are equal
 
 abbrev pub FactsSettled : Type 0
-FactsSettled = (s : List ℕ) (a b : FactsAnswer) → told_facts a ≡ facts_answer s → told_facts b ≡ facts_answer s → a ≡ b
+FactsSettled = (s : List ℕ) (a b : Result Facts Refusal) → told_facts a ≡ facts_answer s → told_facts b ≡ facts_answer s → a ≡ b
 
 abbrev pub EntrySettled : Type 0
 EntrySettled =
-    (s : List ℕ) (t : ℕ) (a b : EntryAnswer) → told_entry a ≡ entry_answer s t → told_entry b ≡ entry_answer s t → a ≡ b
+    (s : List ℕ) (t : ℕ) (a b : Result Entry Refusal) → told_entry a ≡ entry_answer s t → told_entry b ≡ entry_answer s t → a ≡ b

@@ -6,12 +6,11 @@ ghost use Rattle.bundle_storage.specs.Blocks.{most_blocks};
 ghost use Rattle.bundle_layout.specs.Shape.{bad_bundle_shape};
 ghost use Rattle.bundle_layout.specs.Fields.{n_in, held_in, blocks_in, position_in, entry_at};
 ghost use Rattle.bundle_layout.specs.Layout.{bad_front, start_of, bad_entry, rest_good, layout_checks};
-ghost use Rattle.bundle_layout.specs.Mark.{starts_with};
 ghost use Rattle.bundle_storage.specs.Rising.{least};
 ghost use Rattle.bundle_layout.specs.Shadows.{header_size, entry_size};
 
 use crate::inner::{blocks, count_in, held_in, k_in, length_in, n_in, offset_in, position_in};
-use answers::{Outcome, Refusal};
+use answers::Refusal;
 use bundle_storage::{body_good, body_size, two_at};
 use limits::bad_shape;
 
@@ -19,30 +18,13 @@ const LONGEST_FILE: usize = 1048576;
 
 const MOST_BLOCKS: usize = 65535;
 
-fn starts_with(bytes: &[u8], bundle: &[u8]) -> bool
-    requires { length bytes.now ≤ length bundle.now }
-    ensures { result ≡ starts_with bytes.now bundle.now }
-{
-    let mut i = 0;
-    while i < bytes.len() {
-        if bundle[i] != bytes[i] {
-            return false;
-        }
-        i += 1;
-    }
-    true
-}
-
 fn bad_front(bundle: &[u8]) -> bool
     ensures { result ≡ bad_front bundle.now }
 {
     if bundle.len() < 16 {
         return true;
     }
-    if !starts_with(b"FNTB", bundle) {
-        return true;
-    }
-    two_at(bundle, 14) != 0
+    !bundle.starts_with(b"FNTB") || two_at(bundle, 14) != 0
 }
 
 // k = 0 is refused before B is worked out.
@@ -59,6 +41,7 @@ pub fn bad_bundle_shape(k: usize, n: usize, length: usize) -> bool
 }
 
 // Whether entry t is bad: at is where its body has to begin, low the least that its position may be.
+#[tactic(auto, unfolding(crate::specs::Layout::bad_entry, bundle_storage::specs::Rising::out_of_order))]
 fn bad_entry(bundle: &[u8], n: usize, blocks: usize, t: usize, low: usize, at: usize) -> bool
     requires inside { (entry_at t + entry_size ≤ length bundle.now) × (at ≤ length bundle.now) }
     requires header { (n ≡ n_in bundle.now) × (blocks ≡ blocks_in bundle.now) × (blocks ≤ most_blocks) }
@@ -66,16 +49,10 @@ fn bad_entry(bundle: &[u8], n: usize, blocks: usize, t: usize, low: usize, at: u
     ensures { result ≡ bad_entry bundle.now t }
 {
     let position = position_in(bundle, t);
-    if position < low {
-        return true;
-    }
-    if n <= position {
-        return true;
-    }
-    if offset_in(bundle, t) != at {
-        return true;
-    }
-    !body_good(&bundle[at..], blocks, count_in(bundle, t))
+    position < low
+        || n <= position
+        || offset_in(bundle, t) != at
+        || !body_good(&bundle[at..], blocks, count_in(bundle, t))
 }
 
 // The table, the bodies and the bundle's end.
@@ -90,32 +67,31 @@ fn rest_good(bundle: &[u8], n: usize, held: usize, blocks: usize) -> bool
         return false;
     }
     let mut low = 0;
-    let mut t = 0;
-    while t < held {
+    for t in 0..held {
         if bad_entry(bundle, n, blocks, t, low, at) {
             return false;
         }
         low = position_in(bundle, t) + 1;
         at += body_size(blocks, count_in(bundle, t));
-        t += 1;
     }
     at == bundle.len()
 }
 
-pub fn layout_checks(bundle: &[u8]) -> Outcome
+#[tactic(auto, using(crate::proofs::Fronts::layout_tests), unfolding(crate::specs::Layout::layout_checks))]
+pub fn layout_checks(bundle: &[u8]) -> Result<(), Refusal>
     ensures { told_outcome result ≡ layout_checks bundle.now }
 {
     if bad_front(bundle) {
-        return Outcome::Refused(Refusal::Form);
+        return Err(Refusal::Form);
     }
     let k = k_in(bundle);
     let n = n_in(bundle);
     let length = length_in(bundle);
     if bad_bundle_shape(k, n, length) {
-        return Outcome::Refused(Refusal::Shape);
+        return Err(Refusal::Shape);
     }
-    if rest_good(bundle, n, held_in(bundle), blocks(k, length)) {
-        return Outcome::Done;
+    if !rest_good(bundle, n, held_in(bundle), blocks(k, length)) {
+        return Err(Refusal::Form);
     }
-    Outcome::Refused(Refusal::Form)
+    Ok(())
 }

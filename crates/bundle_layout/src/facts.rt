@@ -3,9 +3,8 @@
 ghost use Rattle.std.specs.Prelude.{◌≡◌};
 ghost use Rattle.bundle_layout.specs.Facts.{told_facts, told_entry, facts_answer, entry_answer};
 
-use crate::checks::layout_checks;
-use crate::inner::{blocks, count_in, held_in, k_in, length_in, n_in, offset_in, position_in};
-use answers::{Outcome, Refusal};
+use crate::layout::Layout;
+use answers::Refusal;
 
 #[derive(Clone, Copy)]
 pub struct Facts {
@@ -17,58 +16,34 @@ pub struct Facts {
 }
 
 #[derive(Clone, Copy)]
-pub enum FactsAnswer {
-    Facts(Facts),
-    Refused(Refusal),
-}
-
-#[derive(Clone, Copy)]
 pub struct Entry {
     pub position: usize,
     pub offset: usize,
     pub count: usize,
 }
 
-#[derive(Clone, Copy)]
-pub enum EntryAnswer {
-    Entry(Entry),
-    Refused(Refusal),
-}
-
-pub fn facts_of(bundle: &[u8]) -> FactsAnswer
+#[tactic(auto, using(crate::proofs::Reading::answering))]
+pub fn facts_of(bundle: &[u8]) -> Result<Facts, Refusal>
     ensures { told_facts result ≡ facts_answer bundle.now }
 {
-    match layout_checks(bundle) {
-        Outcome::Done => {
-            let k = k_in(bundle);
-            let length = length_in(bundle);
-            FactsAnswer::Facts(Facts {
-                k,
-                n: n_in(bundle),
-                length,
-                held: held_in(bundle),
-                blocks: blocks(k, length),
-            })
-        }
-        Outcome::Refused(refusal) => FactsAnswer::Refused(refusal),
-    }
+    let layout = Layout::of(bundle)?;
+    Ok(Facts {
+        k: layout.k(),
+        n: layout.n(),
+        length: layout.length(),
+        held: layout.held(),
+        blocks: layout.blocks(),
+    })
 }
 
 // Entry t of the table, counted from 0.
-pub fn entry_of(bundle: &[u8], t: usize) -> EntryAnswer
+#[tactic(auto, using(crate::proofs::Reading::answering))]
+pub fn entry_of(bundle: &[u8], t: usize) -> Result<Entry, Refusal>
     ensures { told_entry result ≡ entry_answer bundle.now t }
 {
-    match layout_checks(bundle) {
-        Outcome::Done => {
-            if held_in(bundle) <= t {
-                return EntryAnswer::Refused(Refusal::Position(0));
-            }
-            EntryAnswer::Entry(Entry {
-                position: position_in(bundle, t),
-                offset: offset_in(bundle, t),
-                count: count_in(bundle, t),
-            })
-        }
-        Outcome::Refused(refusal) => EntryAnswer::Refused(refusal),
+    let layout = Layout::of(bundle)?;
+    if layout.held() <= t {
+        return Err(Refusal::Position(0));
     }
+    Ok(layout.entry(t))
 }

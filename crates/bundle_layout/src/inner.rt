@@ -1,19 +1,17 @@
 // No entry points: the fields of a bundle and the tests of its layout, for the entry points here and in the crates above. Those that read a
 // field ask that it is there.
-ghost use Rattle.std.specs.Prelude.{◌≡◌, [], ◌+◌, ◌<◌, ◌≤◌, length};
-ghost use Rattle.answers.specs.Refusals.{the_result};
+ghost use Rattle.std.specs.Prelude.{◌≡◌, ◌+◌, ◌<◌, ◌≤◌, length};
 ghost use Rattle.limits.specs.Shape.{longest};
-ghost use Rattle.bundle_storage.specs.Blocks.{most_blocks};
 ghost use Rattle.bundle_layout.specs.Blocks.{blocks_of};
 ghost use Rattle.bundle_layout.specs.Shape.{longest_file};
-ghost use Rattle.bundle_layout.specs.Fields.{k_in, n_in, length_in, held_in, blocks_in, entry_at, position_in, count_in, offset_in};
-ghost use Rattle.bundle_layout.specs.Layout.{layout_checks};
+ghost use Rattle.bundle_layout.specs.Fields.{k_in, n_in, length_in, held_in, entry_at, position_in, count_in, offset_in};
 ghost use Rattle.bundle_layout.specs.Shadows.{header_size, entry_size};
 
-pub use crate::checks::{bad_bundle_shape, layout_checks};
+pub use crate::checks::bad_bundle_shape;
 use bundle_storage::{four_at, two_at};
 
 // B.
+#[tactic(auto, unfolding(crate::specs::Blocks::blocks_of, crate::specs::Shape::longest_file, limits::specs::Shape::longest))]
 pub fn blocks(k: usize, length: usize) -> usize
     requires { (0 < k) × (k ≤ longest) × (length ≤ longest_file) }
     ensures { result ≡ blocks_of k length }
@@ -22,6 +20,7 @@ pub fn blocks(k: usize, length: usize) -> usize
 }
 
 // The fields of the header.
+#[tactic(auto, unfolding(crate::specs::Fields::k_in, crate::specs::Shadows::header_size))]
 pub fn k_in(bundle: &[u8]) -> usize
     requires { header_size ≤ length bundle.now }
     ensures { (result ≡ k_in bundle.now) × (result < 65536) }
@@ -29,6 +28,7 @@ pub fn k_in(bundle: &[u8]) -> usize
     two_at(bundle, 4)
 }
 
+#[tactic(auto, unfolding(crate::specs::Fields::n_in, crate::specs::Shadows::header_size))]
 pub fn n_in(bundle: &[u8]) -> usize
     requires { header_size ≤ length bundle.now }
     ensures { (result ≡ n_in bundle.now) × (result < 65536) }
@@ -36,6 +36,7 @@ pub fn n_in(bundle: &[u8]) -> usize
     two_at(bundle, 6)
 }
 
+#[tactic(auto, unfolding(crate::specs::Fields::length_in, crate::specs::Shadows::header_size))]
 pub fn length_in(bundle: &[u8]) -> usize
     requires { header_size ≤ length bundle.now }
     ensures { (result ≡ length_in bundle.now) × (result < 4294967296) }
@@ -43,19 +44,12 @@ pub fn length_in(bundle: &[u8]) -> usize
     four_at(bundle, 8)
 }
 
+#[tactic(auto, unfolding(crate::specs::Fields::held_in, crate::specs::Shadows::header_size))]
 pub fn held_in(bundle: &[u8]) -> usize
     requires { header_size ≤ length bundle.now }
     ensures { (result ≡ held_in bundle.now) × (result < 65536) }
 {
     two_at(bundle, 12)
-}
-
-// B of a bundle whose layout is good.
-pub fn blocks_in(bundle: &[u8]) -> usize
-    requires { layout_checks bundle.now ≡ the_result [] }
-    ensures { (result ≡ blocks_in bundle.now) × (result ≤ most_blocks) }
-{
-    blocks(k_in(bundle), length_in(bundle))
 }
 
 // The fields of entry t.

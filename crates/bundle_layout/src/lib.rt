@@ -4,5 +4,7 @@
 mod checks;
 mod facts;
 pub mod inner;
+mod layout;
 
-pub use facts::{Entry, EntryAnswer, Facts, FactsAnswer, entry_of, facts_of};
+pub use facts::{Entry, Facts, entry_of, facts_of};
+pub use layout::Layout;

@@ -14,10 +14,8 @@ use lib.Dec.{eqb}
 use lib.ListN.{length, get_or, take, drop, length-append, length-take, drop_of_length-le}
 use lib.Seq.{length-take-le, take_at, take_all, take-length, take-append-le, take-take}
 use Rattle.answers.specs.First.{first}
-use Rattle.answers.specs.Refusals.{Answer, the_result, refused, told_outcome, after}
+use Rattle.answers.specs.Refusals.{Answer, the_result, refused, after}
 use Rattle.field.specs.Symbol.{Symbols}
-use Rattle.answers.specs.declared.refusal.Outcome.{Outcome}
-use Rattle.answers.specs.declared.refusal.Outcome.TheVariants.{Done}
 use Rattle.answers.specs.declared.refusal.Refusal.{Refusal}
 use Rattle.answers.specs.declared.refusal.Refusal.TheVariants.{Disagree, Word, Tail}
 use Rattle.answers.proofs.Checks.{stops, goes_on}
@@ -194,15 +192,15 @@ taken_none s file cells laid long =
     }
 
 -- after and room are what the file and the cells hold once block b was taken
-pub taken_more : (s : List ℕ) (b : ℕ) (file cells after room : List ℕ) (o : Outcome) → layout_checks s ≡ the_result [] → b < blocks_in s → Taken s b file cells
-    → told_outcome o ≡ block_answer s b → o ≡ Done → Laid s (suc b) room → length after ≡ length file
-    → (told_outcome o ≡ the_result [] → take (2 * (k_in s * b)) file ≡ take (length file) (bytes_before s b) → take (2 * (k_in s * suc b)) after ≡ take (length file) (bytes_before s (suc b)))
+pub taken_more : (s : List ℕ) (b : ℕ) (file cells after room : List ℕ) → layout_checks s ≡ the_result [] → b < blocks_in s → Taken s b file cells
+    → the_result [] ≡ block_answer s b → Laid s (suc b) room → length after ≡ length file
+    → (take (2 * (k_in s * b)) file ≡ take (length file) (bytes_before s b) → take (2 * (k_in s * suc b)) after ≡ take (length file) (bytes_before s (suc b)))
     → Taken s (b + 1) after room
-taken_more s b file cells after room o good h taken told done laid same more =
+taken_more s b file cells after room good h taken told laid same more =
     record {
       laid = subst (λ (z : ℕ). Laid s z room) (sym (add-one b)) laid;
       long = omega (arith, same, taken.long);
-      left = answer_on s good b h taken.left (sym told ∙ ap told_outcome done);
+      left = answer_on s good b h taken.left (sym told);
       so_far = subst (λ (z : ℕ). take (2 * (k_in s * z)) after ≡ take (length after) (bytes_before s z)) (sym (add-one b))
-          (more (ap told_outcome done) taken.so_far ∙ ap (λ (m : ℕ). take m (bytes_before s (suc b))) (sym same));
+          (more taken.so_far ∙ ap (λ (m : ℕ). take m (bytes_before s (suc b))) (sym same));
     }

@@ -5,20 +5,13 @@ ghost use Rattle.bundle_read.specs.Reading.{some_meets, bad_word};
 ghost use Rattle.bundle_read.specs.Laying.{words_laid, bytes_laid};
 
 use bundle_storage::put_two;
-use cells::wide;
 
 // Whether a symbol of the message is no word.
+#[tactic(auto, using(crate::proofs::Searching::any_meets), unfolding(crate::specs::Reading::bad_word))]
 pub fn bad_word(message: &[u32]) -> bool
     ensures { result ≡ bad_word message.now }
 {
-    let mut i = 0;
-    while i < message.len() {
-        if message[i] == 65536 {
-            return true;
-        }
-        i += 1;
-    }
-    false
+    message.contains(&65536)
 }
 
 // Byte i of the message's words.
@@ -26,7 +19,7 @@ fn byte_of(message: &[u32], i: usize) -> usize
     requires { (i < 2 * length message.now) × ((j : ℕ) → j < length message.now → get_or message.now j 0 < 65536) }
     ensures { (result ≡ get_or (in_bytes message.now) i 0) × (result < 256) }
 {
-    let word = wide(message[i / 2]);
+    let word = message[i / 2] as usize;
     if i % 2 == 0 { word / 256 } else { word % 256 }
 }
 
@@ -35,12 +28,10 @@ pub fn bad_bytes(message: &[u32], from: usize) -> bool
     requires { (j : ℕ) → j < length message.now → get_or message.now j 0 < 65536 }
     ensures { result ≡ some_meets (λ x. not (eqb x 0)) (drop from (in_bytes message.now)) }
 {
-    let mut i = from;
-    while i < 2 * message.len() {
+    for i in from..2 * message.len() {
         if byte_of(message, i) != 0 {
             return true;
         }
-        i += 1;
     }
     false
 }
@@ -51,10 +42,8 @@ fn lay_message(message: &[u32], count: usize, from: usize, file: &mut [u8])
         × ((j : ℕ) → j < length message.now → get_or message.now j 0 < 65536) }
     ensures { file.new ≡ words_laid message.now count from file.old }
 {
-    let mut i = 0;
-    while i < count {
-        put_two(file, from + 2 * i, wide(message[i]));
-        i += 1;
+    for i in 0..count {
+        put_two(file, from + 2 * i, message[i] as usize);
     }
 }
 

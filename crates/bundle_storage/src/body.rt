@@ -6,7 +6,6 @@ ghost use Rattle.bundle_storage.specs.Rising.{rises};
 ghost use Rattle.bundle_storage.specs.Storage.{stored, list_at, body_size, body_good, symbol_in, words_at, cursor_at, Placed};
 
 use crate::bytes::{put_two, two_at};
-use cells::wide;
 
 // The symbol of block b into its body, of whose overflow list done entries are written: 65536 is listed, and its word is 00 00.
 pub fn store(body: &mut [u8], count: usize, done: usize, b: usize, symbol: u32)
@@ -19,10 +18,11 @@ pub fn store(body: &mut [u8], count: usize, done: usize, b: usize, symbol: u32)
         put_two(body, 2 * count + 2 * b, 0);
         return;
     }
-    put_two(body, 2 * count + 2 * b, wide(symbol));
+    put_two(body, 2 * count + 2 * b, symbol as usize);
 }
 
 // The list and the words.
+#[tactic(auto, unfolding(crate::specs::Storage::body_size))]
 pub fn body_size(blocks: usize, count: usize) -> usize
     requires { (blocks < 65536) × (count < 65536) }
     ensures { result ≡ body_size blocks count }
@@ -31,6 +31,7 @@ pub fn body_size(blocks: usize, count: usize) -> usize
 }
 
 // Where the words of the body that begins at an index begin.
+#[tactic(auto, unfolding(crate::specs::Storage::words_at))]
 pub fn words_at(at: usize, count: usize) -> usize
     requires { (at < 4294967296) × (count < 65536) }
     ensures { result ≡ words_at at count }
@@ -79,8 +80,7 @@ fn list_rises(list: &[u8], limit: usize, count: usize) -> bool
     ensures { result ≡ rises limit count (list_at list.now) }
 {
     let mut low = 0;
-    let mut j = 0;
-    while j < count {
+    for j in 0..count {
         let here = two_at(list, 2 * j);
         if here < low {
             return false;
@@ -89,12 +89,12 @@ fn list_rises(list: &[u8], limit: usize, count: usize) -> bool
             return false;
         }
         low = here + 1;
-        j += 1;
     }
     true
 }
 
 // Whether a good body stands at the front.
+#[tactic(auto, unfolding(crate::specs::Storage::body_good, crate::specs::Storage::body_size, crate::specs::Blocks::most_blocks))]
 pub fn body_good(bytes: &[u8], blocks: usize, count: usize) -> bool
     requires { (blocks ≤ most_blocks) × (count < 65536) }
     ensures { result ≡ body_good blocks count bytes.now }

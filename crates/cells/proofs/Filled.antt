@@ -1,22 +1,23 @@
--- A list filled from the front up to its end is filled whole, with zeros or with the numbers of another.
+-- A list filled from the front with one value: what a store adds, and that it is filled whole at its end.
 -- Assumes nothing.
-use mathlib.Core.Path.{◌≡◌, ap, ap₂, ◌∙◌}
-use mathlib.Core.List.{List, ◌++◌, append-nil}
-use Prim.Native.Nat.{ℕ, ◌+◌, ◌≤◌}
-use native.Mathlib.Nat.{zero-add}
+use mathlib.Core.Path.{◌≡◌, refl, sym, ap, subst, ◌∙◌}
+use mathlib.Core.List.{List, [], ◌∷◌, ◌++◌, append-nil}
+use Prim.Native.Nat.{ℕ, zero, suc, ◌+◌, ◌<◌, ◌≤◌}
+use native.Mathlib.Nat.{not-suc-le-zero, le_of_suc-le-suc}
+use native.Mathlib.Numerals.{add-one}
 use native.Mathlib.Omega.{arith}
-use lib.ListN.{length, get_or, drop, replicate, drop_of_length-le}
-use Rattle.answers.specs.Leaves.{written}
-use Rattle.lists.specs.Tab.{tab}
-use Rattle.lists.proofs.Tab.{tab_get_or}
-use Rattle.lists.proofs.Window.{window}
+use lib.ListN.{length, drop, set, replicate, drop_of_length-le}
 
-pub filled_whole : (i : ℕ) (d : List ℕ) → i ≤ length d → length d ≤ i → replicate i 0 ++ drop i d ≡ replicate (length d) 0
-filled_whole i d h l =
-    rw (drop_of_length-le d l) (append-nil (replicate i 0) ∙ ap (λ (n : ℕ). replicate n 0) {x = i} {y = length d} (omega arith))
+module _ {T : Type 0} (v : T) where
+  stored : (n : ℕ) (d : List T) → n < length d → set (replicate n v ++ drop n d) n v ≡ replicate (suc n) v ++ drop (suc n) d
+  stored n [] h = absurd (not-suc-le-zero h)
+  stored zero (x ∷ d) h = refl
+  stored (suc n) (x ∷ d) h = ap (λ (t : List T). v ∷ t) (stored n d (le_of_suc-le-suc h))
 
-pub copied_whole : (from to : List ℕ) (i : ℕ) → i ≤ length from → length from ≤ i → window 0 i (λ j. get_or from j 0) to ≡ written from to
-unfolding window
-copied_whole from to i le ge =
-    ap (λ (m : ℕ). tab m (λ j. get_or from j 0) ++ drop (0 + m) to) {x = i} {y = length from} (omega arith)
-    ∙ ap₂ (λ (s : List ℕ) (m : ℕ). s ++ drop m to) (tab_get_or from) (zero-add (length from))
+  pub fill_more : (n : ℕ) (d : List T) → n < length d → set (replicate n v ++ drop n d) n v ≡ replicate (n + 1) v ++ drop (n + 1) d
+  fill_more n d h =
+      subst (λ (m : ℕ). set (replicate n v ++ drop n d) n v ≡ replicate m v ++ drop m d) (sym (add-one n)) (stored n d h)
+
+  pub filled_whole : (n : ℕ) (d : List T) → n ≤ length d → length d ≤ n → replicate n v ++ drop n d ≡ replicate (length d) v
+  filled_whole n d h l =
+      rw (drop_of_length-le d l) (append-nil (replicate n v) ∙ ap (λ (m : ℕ). replicate m v) {x = n} {y = length d} (omega arith))

@@ -3,23 +3,17 @@
 
 mod repeats;
 
-ghost use Rattle.std.specs.Prelude.{◌≡◌};
-ghost use Rattle.code.specs.Positions.{first_outside};
+ghost use Rattle.std.specs.Prelude.{◌≡◌, leb};
+ghost use Rattle.std.specs.List.{position};
 
 use field::position_of;
 pub use repeats::first_repeat;
 
-// The index of the first position that is n or more, the list's length where none is.
-pub fn first_outside(n: usize, positions: &[u32]) -> usize
-    ensures { result ≡ first_outside n positions.now }
+// The index of the first position that is n or more.
+pub fn first_outside(n: usize, positions: &[u32]) -> Option<usize>
+    ensures { result ≡ position (leb n) positions.now }
 {
-    let mut i = 0;
-    while i < positions.len() {
-        let here = position_of(positions[i]);
-        if n <= here.0 {
-            return i;
-        }
-        i += 1;
-    }
-    i
+    positions
+        .iter()
+        .position(|number| n <= position_of(*number).0)
 }

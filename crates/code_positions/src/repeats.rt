@@ -1,6 +1,7 @@
 // REPEAT: whether a position stands earlier in the list, found with one bit for each position and one pass over the list. No entry point:
 // its caller has made the check before it, POSITION.
 ghost use Rattle.std.specs.Prelude.{◌≡◌, false, ◌/◌, ◌%◌, ◌^◌, ◌<◌, length};
+ghost use Rattle.answers.specs.First.{found};
 ghost use Rattle.limits.specs.Shape.{longest};
 ghost use Rattle.code_positions.specs.Bitmap.{seen, with_seen};
 ghost use Rattle.code.specs.Positions.{Inside};
@@ -34,20 +35,18 @@ fn note_seen(map: &mut [u32], position: usize)
     map[position / 32] += bit_of(position);
 }
 
-// The index of the first position that stands earlier in the list, the list's length where none does.
-pub fn first_repeat(positions: &[u32]) -> usize
+// The index of the first position that stands earlier in the list.
+pub fn first_repeat(positions: &[u32]) -> Option<usize>
     requires { Inside longest positions.now }
-    ensures { result ≡ first_repeat positions.now }
+    ensures { result ≡ found (length positions.now) (first_repeat positions.now) }
 {
     let mut map: [u32; CELLS] = [0; CELLS];
-    let mut i = 0;
-    while i < positions.len() {
-        let position = positions[i] as usize;
+    for (i, number) in positions.iter().enumerate() {
+        let position = *number as usize;
         if is_seen(&map, position) {
-            return i;
+            return Some(i);
         }
         note_seen(&mut map, position);
-        i += 1;
     }
-    i
+    None
 }

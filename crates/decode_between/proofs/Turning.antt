@@ -5,9 +5,8 @@ use mathlib.Core.List.{List}
 use Prim.Native.Nat.{ℕ, suc, ◌+◌, ◌-◌, ◌*◌, ◌/◌, ◌^◌, ◌<◌, ◌≤◌}
 use native.Mathlib.Nat.{mul_comm, mul-le-mul, mul-div_cancel, div-eq_of_eq-mul_left, div-mul-le_self, le_of_eq, le_trans}
 use native.Mathlib.Omega.{arith}
-use lib.ListN.{length, take}
+use lib.ListN.{length, get_or, drop, length-drop}
 use lib.Pow.{pow-add, pow_pos}
-use lib.Seq.{length-take-le}
 use Rattle.field.specs.Field.{power}
 use Rattle.field.specs.Points.{root_of}
 use Rattle.field.specs.Roots.{root}
@@ -16,12 +15,11 @@ use Rattle.field.specs.Symbol.{Symbols}
 use Rattle.field.proofs.Ring.{power_times}
 use Rattle.field.proofs.Roots.{root_is}
 use Rattle.field.proofs.Sizes.{level_least, size_power}
-use Rattle.transform_halving.specs.Transformable.{Transformable}
-use Rattle.lists.specs.Part.{part}
-use Rattle.transform_table.specs.Turns.{Turns, Tabled}
+use Rattle.lists.proofs.Tab.{tab_at}
+use Rattle.transform_table.specs.Turns.{TurnsOf, Tabled}
 use Rattle.decode_between.specs.Between.{psi}
 use Rattle.decode_between.specs.Foldable.{PsiTable}
-use Rattle.decode_between.proofs.Foldable.{size_N, power_at}
+use Rattle.decode_between.proofs.Foldable.{size_N}
 
 -- each root of the table is a power of each later one
 root_power : (i d : ℕ) → i + d < 17 → power (root (i + d)) (2 ^ d) ≡ root i
@@ -31,7 +29,7 @@ root_power i d h =
     ∙ ap (power 3) (sym (pow-add 2 (16 - (i + d)) d) ∙ ap (2 ^◌) {x = 16 - (i + d) + d} {y = 16 - i} (omega arith))
     ∙ sym (root_is i (omega arith))
 
-module _ (N K at : ℕ) (cells : List ℕ) (table : PsiTable N cells) (K_power : K ≡ size_of K) (K_fits : K ≤ N) where
+module _ (N K : ℕ) (cells : List ℕ) (table : PsiTable N cells) (K_power : K ≡ size_of K) (K_fits : K ≤ N) where
   e : ℕ
   e = level_of N
 
@@ -73,29 +71,31 @@ module _ (N K at : ℕ) (cells : List ℕ) (table : PsiTable N cells) (K_power :
   below : (j : ℕ) → j < K / 2 → j * (2 * N / K) < N
   below j l = omega (arith, half, mul-le-mul {n₂ = K / 2} {m₂ = 2 * N / K} l (le_of_eq refl), steps, pow_pos (suc e - c))
 
-  turns : Turns (root_of K) (3 * N) (K / 2) (2 * N / K) cells
-  turns =
-      record {
-        is = λ j l.
-            power_at N cells table (j * (2 * N / K)) (below j l)
-            ∙ ap (power (psi N)) (mul_comm j (2 * N / K))
-            ∙ power_times (psi N) (2 * N / K) j
-            ∙ ap (λ (x : ℕ). power x j) turn_root;
-      }
+  -- what a transform of K numbers asks; t are the powers
+  module _ (t : List ℕ) (lent : t ≡ drop (3 * N) cells) where
+    turns : TurnsOf (root_of K) (K / 2) t (2 * N / K)
+    turns =
+        record {
+          inside = omega (arith, half, table.long, ap length lent, length-drop (3 * N) cells);
+          is = λ j l.
+              ap (λ (s : List ℕ). get_or s (j * (2 * N / K)) 0) (lent ∙ table.powers)
+              ∙ tab_at N (power (psi N)) (j * (2 * N / K)) (below j l)
+              ∙ ap (power (psi N)) (mul_comm j (2 * N / K))
+              ∙ power_times (psi N) (2 * N / K) j
+              ∙ ap (λ (x : ℕ). power x j) turn_root;
+        }
 
-  -- what a transform of K numbers asks, wherever before the powers they stand
-  pub tabled : at + K ≤ 3 * N → Transformable (part at K cells) → Tabled cells at K (3 * N) (2 * N / K)
-  tabled apart able = record { apart = apart; inside = omega (arith, half, table.long); able = able; turns = turns }
+    pub tabled : (s : List ℕ) → length s ≡ K → Symbols s → Tabled s t (2 * N / K)
+    tabled s long small =
+        record {
+          able = record { size = long ∙ K_power ∙ ap size_of (sym long); symbols = small };
+          turns = subst (λ (n : ℕ). TurnsOf (root_of n) (n / 2) t (2 * N / K)) (sym long) turns;
+        }
 
 -- what a transform of the first N cells asks
-pub whole_tabled : (N : ℕ) (s : List ℕ) → PsiTable N s → Symbols (take N s) → Tabled s 0 N (3 * N) 2
-whole_tabled N s table small =
-    subst (Tabled s 0 N (3 * N)) (mul-div_cancel 2 some)
-    (tabled N N 0 s table table.N_power (le_of_eq refl) (omega arith)
-    (record { size = long ∙ table.N_power ∙ ap size_of (sym long); symbols = small }))
+pub whole_tabled : (N : ℕ) (cells t : List ℕ) → PsiTable N cells → t ≡ drop (3 * N) cells → (s : List ℕ) → length s ≡ N → Symbols s → Tabled s t 2
+whole_tabled N cells t table lent s long small =
+    subst (Tabled s t) (mul-div_cancel 2 some) (tabled N N cells table table.N_power (le_of_eq refl) t lent s long small)
   where
     some : 0 < N
-    some = omega (arith, size_N N s table, pow_pos (level_of N))
-
-    long : length (take N s) ≡ N
-    long = length-take-le N s (omega (arith, table.long))
+    some = omega (arith, size_N N cells table, pow_pos (level_of N))

@@ -8,11 +8,9 @@ use lib.ListN.{length, take, drop}
 use lib.Seq.{length-take-le}
 use Rattle.field.specs.Congruence.{◌≈◌}
 use Rattle.field.specs.Points.{root_of}
-use Rattle.field.specs.Size.{size_of}
 use Rattle.field.specs.Symbol.{Symbols}
 use Rattle.poly.proofs.Symbols.{tab_symbols}
 use Rattle.lists.proofs.Tab.{tab_length}
-use Rattle.transform_halving.specs.Transformable.{Transformable}
 use Rattle.transform_halving.specs.Transform.{transform_of}
 use Rattle.lists.specs.Part.{part, replaced}
 use Rattle.transform_table.specs.Turns.{Tabled}
@@ -43,17 +41,14 @@ module _ (N K : ℕ) (d : List ℕ) (room : Foldable N K d) where
     pub folded_same : length s ≡ length d
     folded_same = ap length folds ∙ replaced_length N K d inside (folded N K (take N d)) folded_length
 
-    folded_transformable : Transformable (part N K s)
-    folded_transformable =
-        subst Transformable (sym folded_part)
-        (record { size = folded_length ∙ room.K_power ∙ ap size_of (sym folded_length); symbols = folded_symbols })
-
-    pub transform_asked : Tabled s N K (3 * N) (2 * N / K)
-    transform_asked =
-        tabled N K N s
+    pub transform_asked : (x t : List ℕ) → x ≡ part N K s → t ≡ drop (3 * N) s → Tabled x t (2 * N / K)
+    transform_asked x t lent powers =
+        tabled N K s
         (table_kept N d room.table s folded_same
         (ap (drop (3 * N)) folds ∙ replaced_behind N K d inside (folded N K (take N d)) folded_length (3 * N) (omega (arith, room.K_fits))))
-        room.K_power room.K_fits (omega (arith, room.K_fits)) folded_transformable
+        room.K_power room.K_fits t powers x
+        (ap length (lent ∙ folded_part) ∙ folded_length)
+        (subst Symbols (sym (lent ∙ folded_part)) folded_symbols)
 
     pub transformed : (t : List ℕ) → t ≡ replaced N K s (transform_of (part N K s)) → t ≡ replaced N K d (values_between N K (take N d))
     transformed t is =

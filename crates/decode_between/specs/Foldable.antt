@@ -18,3 +18,17 @@ pub record Foldable (N K : ℕ) (cells : List ℕ) : Type 0 where
   pub K_power : K ≡ size_of K
   pub K_fits : K ≤ N
   pub symbols : Symbols (take N cells)
+
+-- the powers of ψ as a list of their own
+pub record PsiPowers (powers : List ℕ) : Type 0 where
+  pub size : length powers ≡ size_of (length powers)
+  pub root : level_of (length powers) < 16
+  pub table : powers ≡ tab (length powers) (power (psi (length powers)))
+
+-- and the coefficients
+pub record Columns (K : ℕ) (coefficients powers : List ℕ) : Type 0 where
+  pub table : PsiPowers powers
+  pub long : length powers ≡ length coefficients
+  pub K_power : K ≡ size_of K
+  pub K_fits : K ≤ length coefficients
+  pub symbols : Symbols coefficients

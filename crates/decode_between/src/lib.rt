@@ -2,29 +2,23 @@
 // of the code word. Of 4N cells the first N hold the coefficients, the next N are room, which the values go to, and the last N hold the powers of ψ.
 #![tactic(auto)]
 
-ghost use Rattle.std.specs.Prelude.{◌≡◌, ◌<◌, take};
+ghost use Rattle.std.specs.Prelude.{◌≡◌, ◌<◌, length, take};
 ghost use Rattle.field.specs.Symbol.{IsSymbol};
 ghost use Rattle.lists.specs.Part.{replaced};
 ghost use Rattle.decode_between.specs.Between.{values_between, folded_at, folded};
-ghost use Rattle.decode_between.specs.Foldable.{Foldable};
+ghost use Rattle.decode_between.specs.Foldable.{Columns, Foldable};
 
-use cells::wide;
-use transform_table::transform_by;
+use transform_table::{Turns, transform_by};
 
 // The coefficients whose indices are i modulo K, each times its power of ψ, added up in 64 bits and reduced once.
-fn fold_one(size: usize, step: usize, i: usize, cells: &[u32]) -> u32
-    requires { Foldable size step cells.now × (i < step) }
-    ensures { IsSymbol result (folded_at size step cells.now i) }
+fn fold_one(step: usize, i: usize, coefficients: &[u32], powers: &[u32]) -> u32
+    requires { Columns step coefficients.now powers.now × (i < step) }
+    ensures { IsSymbol result (folded_at (length coefficients.now) step coefficients.now i) }
 {
-    let rows = size / step;
-    let table = 3 * size;
-    let mut sum: usize = 0;
-    let mut at = i;
-    let mut b = 0;
-    while b < rows {
-        sum += wide(cells[at]) * wide(cells[table + at]);
-        at += step;
-        b += 1;
+    let mut sum: u64 = 0;
+    for b in 0..coefficients.len() / step {
+        let at = b * step + i;
+        sum += u64::from(coefficients[at]) * u64::from(powers[at]);
     }
     (sum % 65537) as u32
 }
@@ -34,10 +28,10 @@ fn fold(size: usize, step: usize, cells: &mut [u32])
     ensures { cells.new
         ≡ replaced size step cells.old (folded size step (take size cells.old)) }
 {
-    let mut i = 0;
-    while i < step {
-        cells[size + i] = fold_one(size, step, i, cells);
-        i += 1;
+    let (front, powers) = cells.split_at_mut(3 * size);
+    let (coefficients, room) = front.split_at_mut(size);
+    for (i, value) in room[0..step].iter_mut().enumerate() {
+        *value = fold_one(step, i, coefficients, powers);
     }
 }
 
@@ -48,5 +42,10 @@ pub fn values_between(size: usize, step: usize, cells: &mut [u32])
         ≡ replaced size step cells.old (values_between size step (take size cells.old)) }
 {
     fold(size, step, cells);
-    transform_by(cells, size, step, 3 * size, 2 * size / step);
+    let (front, table) = cells.split_at_mut(3 * size);
+    let turns = Turns {
+        table,
+        step: 2 * size / step,
+    };
+    transform_by(&mut front[size..size + step], turns);
 }

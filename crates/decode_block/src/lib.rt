@@ -17,8 +17,8 @@ ghost use Rattle.code.specs.Rooms.{decode_work};
 ghost use Rattle.decode_missing.specs.Marks.{Marks};
 ghost use Rattle.decode_block.specs.Multiplied.{Multiplied};
 
-use answers::{Outcome, Refusal};
-use cells::{clear, copy, wide};
+use answers::Refusal;
+use cells::{clear, copy};
 use decode_prepare::prepare;
 use field::{product, size};
 
@@ -28,10 +28,8 @@ fn mark_positions(positions: &[u32], marks: &mut [u32])
     ensures { Marks (length marks.old) positions.now marks.new }
 {
     clear(marks);
-    let mut t = 0;
-    while t < positions.len() {
-        marks[wide(positions[t])] = 1;
-        t += 1;
+    for position in positions {
+        marks[*position as usize] = 1;
     }
 }
 
@@ -42,11 +40,9 @@ fn multiply_in(positions: &[u32], values: &[u32], list: &mut [u32])
     ensures { Multiplied (length positions.now) positions.now values.now
         list.old list.new }
 {
-    let mut t = 0;
-    while t < positions.len() {
-        let at = wide(positions[t]);
-        list[at] = product(values[t], list[at]);
-        t += 1;
+    for (position, value) in positions.iter().zip(values) {
+        let at = *position as usize;
+        list[at] = product(*value, list[at]);
     }
 }
 
@@ -71,7 +67,7 @@ pub fn recover(
     values: &[u32],
     out: &mut [u32],
     cells: &mut [u32],
-) -> Outcome
+) -> Result<(), Refusal>
     requires { Decodable k n (held positions.now values.now) × (k ≤ length out.old)
         × (length cells.old ≡ decode_work n) }
     ensures { leaving (told_outcome result) out.new cells.new
@@ -80,8 +76,8 @@ pub fn recover(
     if find_message(k, n, positions, values, cells) {
         copy(&cells[0..k], out);
         clear(cells);
-        return Outcome::Done;
+        return Ok(());
     }
     clear(cells);
-    Outcome::Refused(Refusal::Disagree(0))
+    Err(Refusal::Disagree(0))
 }

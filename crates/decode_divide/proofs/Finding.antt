@@ -64,8 +64,9 @@ module _ (k missing N K : ℕ) (d : List ℕ) (room : Foldable N K d) (few : k �
 
   -- What the first transform asks, and what it leaves
 
-  pub first_asked : Tabled d 0 N (3 * N) 2
-  first_asked = whole_tabled N d room.table room.symbols
+  pub first_asked : (x t : List ℕ) → x ≡ part 0 N d → t ≡ drop (3 * N) d → Tabled x t 2
+  first_asked x t lent powers =
+      whole_tabled N d t room.table powers x (ap length lent ∙ h_long) (subst Symbols (sym lent) room.symbols)
 
   module _ (s : List ℕ) (is : s ≡ replaced 0 N d (sums (inverse (root_of N)) (part 0 N d))) where
     inside : 0 + N ≤ length d

@@ -9,13 +9,11 @@ use lib.ListN.{length, get_or, take, drop}
 use lib.Seq.{take_at, drop-append-add, drop-drop, get_or-drop}
 use Rattle.field.specs.Field.{difference, product, power, inverse}
 use Rattle.field.specs.Points.{root_of}
-use Rattle.field.specs.Size.{size_of}
 use Rattle.field.specs.Symbol.{Symbols}
 use Rattle.field.proofs.Ring.{product_lt}
 use Rattle.lists.specs.Tab.{tab}
 use Rattle.poly.proofs.Symbols.{tab_symbols}
 use Rattle.lists.proofs.Tab.{tab_length, tab_ext}
-use Rattle.transform_halving.specs.Transformable.{Transformable}
 use Rattle.transform_halving.specs.Transform.{sums}
 use Rattle.transform_halving.proofs.Sums.{sums_length, sums_symbols}
 use Rattle.lists.specs.Part.{part, replaced}
@@ -91,15 +89,20 @@ module _ (k N K : ℕ) (d : List ℕ) (room : Foldable N K d) (few : k ≤ K) wh
       part_is : part N K s₂ ≡ Q
       part_is = ap (part N K) divided_is ∙ replaced_part N K d inside Q Q_length
 
-      pub back_asked : Tabled s₂ N K (3 * N) (2 * N / K)
-      back_asked =
-          tabled N K N s₂ (held s₂ Q divided_is Q_length) room.K_power room.K_fits (omega (arith, room.K_fits))
-          (subst Transformable (sym part_is) (record { size = Q_length ∙ room.K_power ∙ ap size_of (sym Q_length); symbols = Q_symbols }))
+      pub back_asked : (x t : List ℕ) → x ≡ part N K s₂ → t ≡ drop (3 * N) s₂ → Tabled x t (2 * N / K)
+      back_asked x t lent powers =
+          tabled N K s₂ (held s₂ Q divided_is Q_length) room.K_power room.K_fits t powers x
+          (ap length (lent ∙ part_is) ∙ Q_length)
+          (subst Symbols (sym (lent ∙ part_is)) Q_symbols)
 
-      module _ (s₃ : List ℕ) (back : s₃ ≡ replaced N K s₂ (sums (inverse (root_of K)) (part N K s₂))) where
+      module _ (s₃ : List ℕ) (back : s₃ ≡ replaced N K s₂ (sums (inverse (root_of (length (part N K s₂)))) (part N K s₂))) where
         back_is : s₃ ≡ replaced N K d E
         unfolding E
-        back_is = back ∙ again s₂ Q divided_is Q_length (sums (inverse (root_of K)) (part N K s₂)) ∙ ap (λ (q : List ℕ). replaced N K d (sums (inverse (root_of K)) q)) part_is
+        back_is =
+            back
+            ∙ again s₂ Q divided_is Q_length _
+            ∙ ap (λ (q : List ℕ). replaced N K d (sums (inverse (root_of (length q))) q)) part_is
+            ∙ ap (λ (n : ℕ). replaced N K d (sums (inverse (root_of n)) Q)) Q_length
 
         pub untwist_asked : PsiTable N s₃ × (k ≤ N) × (get_or s₃ N 0 < 65537)
         unfolding E

@@ -3,11 +3,13 @@
 // last N the powers of ψ. Three transforms: one of N, which decides, and two of K.
 #![tactic(auto)]
 
-ghost use Rattle.std.specs.Prelude.{◌≡◌, false, List, ◌++◌, ℕ, ◌+◌, ◌*◌, ◌<◌, ◌≤◌, length, get_or, take, drop};
+ghost use Rattle.std.specs.Prelude.{◌≡◌, false, List, ◌++◌, ℕ, ◌+◌, ◌-◌, ◌*◌, ◌<◌, ◌≤◌, length, get_or, take, drop};
 ghost use Rattle.limits.specs.Shape.{bad_shape};
+ghost use Rattle.field.specs.Field.{difference, power, product};
 ghost use Rattle.field.specs.Size.{size_of};
 ghost use Rattle.lists.specs.Tab.{tab};
-ghost use Rattle.decode_between.specs.Foldable.{PsiTable, Foldable};
+ghost use Rattle.decode_between.specs.Between.{psi};
+ghost use Rattle.decode_between.specs.Foldable.{PsiPowers, PsiTable, Foldable};
 ghost use Rattle.decode_divide.specs.Dividing.{ZeroAt, Divided};
 ghost use Rattle.decode_divide.specs.Quotients.{InversesBetween, with_quotients, untwisted, quotient_in};
 ghost use Rattle.decode_divide.specs.Tests.{ZeroFrom, Decides};
@@ -15,20 +17,14 @@ ghost use Rattle.decode_divide.specs.Tests.{ZeroFrom, Decides};
 use decode_between::values_between;
 use field::{difference, inverse, product, size};
 use transform_halving::scale;
-use transform_table::back_by;
+use transform_table::{Turns, back_by};
 
 // Whether all numbers from an index on are 0.
 fn zero_from(list: &[u32], from: usize) -> bool
     ensures { Decides result (ZeroFrom from list.now) }
 {
-    let mut i = from;
-    while i < list.len() {
-        if list[i] != 0 {
-            return false;
-        }
-        i += 1;
-    }
-    true
+    let begin = from.min(list.len());
+    list[begin..].iter().all(|number| *number == 0)
 }
 
 // The values at the points between, each divided by N·K·M.
@@ -36,23 +32,22 @@ fn divide_values(size: usize, step: usize, cells: &mut [u32])
     requires { (length cells.old ≡ 4 * size) × (step ≤ size) }
     ensures { cells.new ≡ with_quotients size step cells.old }
 {
-    let inverses = 2 * size;
-    let mut i = 0;
-    while i < step {
-        cells[size + i] = product(cells[size + i], cells[inverses + i]);
-        i += 1;
+    let (front, inverses) = cells.split_at_mut(2 * size);
+    for (i, value) in front[size..size + step].iter_mut().enumerate() {
+        *value = product(*value, inverses[i]);
     }
 }
 
 // A coefficient of f from that of f(ψ·X): 1/ψ^i is -ψ^(N - i), which the table has but for i = 0.
-fn untwist_one(size: usize, i: usize, cells: &[u32]) -> u32
-    requires { PsiTable size cells.now × (i < size) × (get_or cells.now size 0 < 65537) }
-    ensures { result ≡ untwisted size (drop size cells.now) i }
+fn untwist_one(i: usize, coefficient: u32, powers: &[u32]) -> u32
+    requires { PsiPowers powers.now × (i < length powers.now) × (i ≡ 0 → coefficient < 65537) }
+    ensures { result
+        ≡ difference 0 (product coefficient (power (psi (length powers.now)) (length powers.now - i))) }
 {
     if i == 0 {
-        return cells[size];
+        return coefficient;
     }
-    difference(0, product(cells[size + i], cells[4 * size - i]))
+    difference(0, product(coefficient, powers[powers.len() - i]))
 }
 
 // The coefficients, to the front.
@@ -61,10 +56,10 @@ fn untwist(k: usize, size: usize, cells: &mut [u32])
     ensures { cells.new
         ≡ tab k (untwisted size (drop size cells.old)) ++ drop k cells.old }
 {
-    let mut i = 0;
-    while i < k {
-        cells[i] = untwist_one(size, i, cells);
-        i += 1;
+    let (front, powers) = cells.split_at_mut(3 * size);
+    let (room, twisted) = front.split_at_mut(size);
+    for (i, coefficient) in room[0..k].iter_mut().enumerate() {
+        *coefficient = untwist_one(i, twisted[i], powers);
     }
 }
 
@@ -76,7 +71,12 @@ fn quotient(k: usize, size: usize, step: usize, cells: &mut [u32])
 {
     values_between(size, step, cells);
     divide_values(size, step, cells);
-    back_by(cells, size, step, 3 * size, 2 * size / step);
+    let (front, table) = cells.split_at_mut(3 * size);
+    let turns = Turns {
+        table,
+        step: 2 * size / step,
+    };
+    back_by(&mut front[size..size + step], turns);
     untwist(k, size, cells);
 }
 
@@ -91,7 +91,9 @@ pub fn divide(k: usize, n: usize, missing: usize, cells: &mut [u32]) -> bool
 {
     let step = size(k);
     let size = size(n);
-    back_by(cells, 0, size, 3 * size, 2);
+    let (front, table) = cells.split_at_mut(3 * size);
+    let turns = Turns { table, step: 2 };
+    back_by(&mut front[0..size], turns);
     if !zero_from(&cells[0..size], k + missing) {
         return false;
     }

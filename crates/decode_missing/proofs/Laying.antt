@@ -2,13 +2,13 @@
 -- Assumes nothing.
 use mathlib.Core.Path.{◌≡◌, refl, sym, ap, ap₂, ◌∙◌}
 use mathlib.Core.Bool.{Bool, true, false, cond}
-use mathlib.Core.List.{List, ◌∷◌, ◌++◌, append_assoc}
+use mathlib.Core.List.{List, ◌∷◌, ◌++◌, append_assoc, append-nil}
 use Prim.Native.Nat.{ℕ, zero, suc, ◌+◌, ◌-◌, ◌*◌, ◌<◌, ◌≤◌}
 use native.Mathlib.Numerals.{add-one}
 use native.Mathlib.Omega.{arith}
 use lib.Dec.{eqb}
-use lib.ListN.{length, get_or, take, drop, set, replicate, length-append, length-drop, length-replicate, take-append-drop}
-use lib.Seq.{get_or-append-add, get_or-drop, get_or-take}
+use lib.ListN.{length, get_or, take, drop, set, replicate, length-drop}
+use lib.Seq.{length-take-le, drop-drop}
 use Rattle.field.specs.Field.{product, power}
 use Rattle.field.specs.Points.{root_of, point_of}
 use Rattle.field.proofs.Ring.{power_zero, power_step}
@@ -28,88 +28,53 @@ unmarked_le N marks (suc b) = at (eqb (get_or marks b 0) 0) (unmarked_le N marks
     at true h = omega arith
     at false h = omega arith
 
-module _ (N : ℕ) (d : List ℕ) where
+module _ (N : ℕ) (marks : List ℕ) where
   -- the first j positions are passed, and the points begin at place
   pub laid : ℕ → ℕ → List ℕ
-  laid place j = replicate place 0 ++ (unmarked N (take N (drop (2 * N) d)) j ++ drop N d)
+  laid place j = replicate place 0 ++ unmarked N marks j
 
-  pub laid_none : take N d ≡ replicate N 0 → d ≡ laid N 0
+  pub laid_none : (s : List ℕ) → s ≡ replicate N 0 → s ≡ laid N 0
   unfolding laid unmarked
-  laid_none zeros = sym (take-append-drop N d) ∙ ap (◌++ drop N d) zeros
+  laid_none s zeros = zeros ∙ sym (append-nil (replicate N 0))
 
-  module _ (place j : ℕ) (counted : place + length (unmarked N (take N (drop (2 * N) d)) j) ≡ N) (enough : N ≤ length d) where
-    pub laid_long : length (laid place j) ≡ length d
-    unfolding laid
-    laid_long =
-        length-append (replicate place 0) _
-        ∙ omega (
-          arith,
-          length-replicate {A = ℕ} place 0,
-          length-append (unmarked N (take N (drop (2 * N) d)) j) (drop N d),
-          length-drop N d,
-          counted,
-        )
-
-    -- the mark that is read
-    pub mark_at : j < N → get_or (laid place j) (2 * N + j) 0 ≡ get_or (take N (drop (2 * N) d)) j 0
-    unfolding laid
-    mark_at l =
-        ap (λ (s : List ℕ). get_or s (2 * N + j) 0) (sym (append_assoc (replicate place 0) (unmarked N (take N (drop (2 * N) d)) j) (drop N d)))
-        ∙ ap (λ (m : ℕ). get_or (front ++ drop N d) m 0) {x = 2 * N + j} {y = length front + (N + j)} (omega (arith, front_long))
-        ∙ get_or-append-add front (drop N d) (N + j) 0
-        ∙ get_or-drop N d (N + j) 0
-        ∙ ap (λ (m : ℕ). get_or d m 0) {x = N + (N + j)} {y = 2 * N + j} (omega arith)
-        ∙ sym (get_or-take N (drop (2 * N) d) j 0 l ∙ get_or-drop (2 * N) d j 0)
-      where
-        front : List ℕ
-        front = replicate place 0 ++ unmarked N (take N (drop (2 * N) d)) j
-
-        front_long : length front ≡ N
-        front_long = length-append (replicate place 0) _ ∙ omega (arith, length-replicate {A = ℕ} place 0, counted)
-
+  module _ (place j : ℕ) (counted : place + length (unmarked N marks j) ≡ N) where
     pub place_some : j < N → 0 < place
-    place_some l = omega (arith, counted, unmarked_le N (take N (drop (2 * N) d)) j)
+    place_some l = omega (arith, counted, unmarked_le N marks j)
 
     -- one position more
-    pub laid_more : (t : Bool) (x p : ℕ) (s : List ℕ) → j < N → eqb (get_or (take N (drop (2 * N) d)) j 0) 0 ≡ t → x ≡ point_of N j
-        → p ≡ cond t (place - 1) place → s ≡ cond t (set (laid place j) (place - 1) x) (laid place j)
-        → (p + length (unmarked N (take N (drop (2 * N) d)) (j + 1)) ≡ N) × (s ≡ laid p (j + 1))
+    pub laid_more : (x p : ℕ) (s : List ℕ) → j < N → x ≡ point_of N j
+        → p ≡ cond (eqb (get_or marks j 0) 0) (place - 1) place → s ≡ cond (eqb (get_or marks j 0) 0) (set (laid place j) (place - 1) x) (laid place j)
+        → (p + length (unmarked N marks (j + 1)) ≡ N) × (s ≡ laid p (j + 1))
     unfolding laid unmarked
-    laid_more t x p s l test is_x is-p is-s =
-        rw (add-one j, test) (at t is-p is-s)
+    laid_more x p s l is_x is-p is-s =
+        rw add-one (at (eqb (get_or marks j 0) 0) is-p is-s)
       where
         points : List ℕ
-        points = unmarked N (take N (drop (2 * N) d)) j
+        points = unmarked N marks j
 
         last : ◌≡◌ {A = List ℕ} (replicate place 0) (replicate (suc (place - 1)) 0)
         last = ap (λ (m : ℕ). replicate {A = ℕ} m 0) {x = place} {y = suc (place - 1)} (omega (arith, place_some l))
 
         at : (t : Bool) → p ≡ cond t (place - 1) place
-            → s ≡ cond t (set (replicate place 0 ++ (points ++ drop N d)) (place - 1) x) (replicate place 0 ++ (points ++ drop N d))
-            → (p + length (cond t (point_of N j ∷ points) points) ≡ N) × (s ≡ replicate p 0 ++ (cond t (point_of N j ∷ points) points ++ drop N d))
+            → s ≡ cond t (set (replicate place 0 ++ points) (place - 1) x) (replicate place 0 ++ points)
+            → (p + length (cond t (point_of N j ∷ points) points) ≡ N) × (s ≡ replicate p 0 ++ cond t (point_of N j ∷ points) points)
         at true is-p is-s = (
           omega (arith, is-p, counted, place_some l),
           is-s
-              ∙ ap (λ (z : List ℕ). set (z ++ (points ++ drop N d)) (place - 1) x) last
-              ∙ over_last (place - 1) x (points ++ drop N d)
-              ∙ ap₂ (λ (q y : ℕ). replicate q 0 ++ (y ∷ (points ++ drop N d))) (sym is-p) is_x,
+              ∙ ap (λ (z : List ℕ). set (z ++ points) (place - 1) x) last
+              ∙ over_last (place - 1) x points
+              ∙ ap₂ (λ (q y : ℕ). replicate q 0 ++ (y ∷ points)) (sym is-p) is_x,
         )
-        at false is-p is-s = (omega (arith, is-p, counted), is-s ∙ ap (λ (q : ℕ). replicate q 0 ++ (points ++ drop N d)) (sym is-p))
+        at false is-p is-s = (omega (arith, is-p, counted), is-s ∙ ap (λ (q : ℕ). replicate q 0 ++ points) (sym is-p))
 
-    pub laid_all : (r : ℕ) → N ≤ j → j ≤ N → r ≡ N - place
-        → (r ≡ length (unmarked N (take N (drop (2 * N) d)) N))
-        × (laid place j ≡ replicate (N - r) 0 ++ (unmarked N (take N (drop (2 * N) d)) N ++ drop N d))
+    pub laid_all : (r : ℕ) (rest : List ℕ) → j ≡ N → r ≡ N - place
+        → (r ≡ length (unmarked N marks N)) × (laid place j ++ rest ≡ replicate (N - r) 0 ++ (unmarked N marks N ++ rest))
     unfolding laid
-    laid_all r h l is = (
-      omega (arith, counted, ap (λ (m : ℕ). length (unmarked N (take N (drop (2 * N) d)) m)) end),
-      ap₂ (λ (p m : ℕ). replicate p 0 ++ (unmarked N (take N (drop (2 * N) d)) m ++ drop N d)) begin end,
+    laid_all r rest end is = (
+      omega (arith, counted, ap (λ (m : ℕ). length (unmarked N marks m)) end),
+      ap₂ (λ (p m : ℕ). (replicate p 0 ++ unmarked N marks m) ++ rest) {x = place} {y = N - r} (omega (arith, counted)) end
+          ∙ append_assoc (replicate (N - r) 0) (unmarked N marks N) rest,
     )
-      where
-        begin : place ≡ N - r
-        begin = omega (arith, counted)
-
-        end : j ≡ N
-        end = omega arith
 
 -- the points follow each other by the root
 pub first_point : (N : ℕ) → 1 ≡ point_of N 0
@@ -120,3 +85,13 @@ pub next_point : (N j turn root next : ℕ) → turn ≡ point_of N j → root �
 unfolding point_of
 next_point N j turn root next is is-root new =
     new ∙ ap₂ product is is-root ∙ sym (power_step (root_of N) j) ∙ ap (power (root_of N)) (sym (add-one j))
+
+-- the marks, lent from what stands behind the first N cells
+pub lent_marks : (N : ℕ) (d rest : List ℕ) → rest ≡ drop N d → take (2 * N - N) (drop N rest) ≡ take N (drop (2 * N) d)
+lent_marks N d rest is =
+    ap₂ (λ (n : ℕ) (s : List ℕ). take n (drop N s)) {x = 2 * N - N} {y = N} (omega arith) is
+    ∙ ap (take N) (drop-drop N N d ∙ ap (λ (n : ℕ). drop n d) {x = N + N} {y = 2 * N} (omega arith))
+
+pub lent_length : (N : ℕ) (d rest : List ℕ) → length d ≡ 4 * N → rest ≡ drop N d → length (take (2 * N - N) (drop N rest)) ≡ N
+lent_length N d rest long is =
+    ap length (lent_marks N d rest is) ∙ length-take-le N (drop (2 * N) d) (omega (arith, length-drop (2 * N) d, long))

@@ -3,7 +3,7 @@
 // before.
 #![tactic(auto)]
 
-ghost use Rattle.std.specs.Prelude.{◌≡◌, cond, ◌++◌, ◌-◌, ◌*◌, ◌<◌, ◌≤◌, eqb, length, get_or, take, drop, set, replicate};
+ghost use Rattle.std.specs.Prelude.{◌≡◌, cond, ◌++◌, ◌-◌, ◌*◌, ◌<◌, ◌≤◌, eqb, length, take, drop, set, replicate};
 ghost use Rattle.field.specs.Size.{size_of};
 ghost use Rattle.decode_missing.specs.Missing.{missing_points};
 ghost use Rattle.decode_missing.specs.Marks.{marks_at};
@@ -11,17 +11,17 @@ ghost use Rattle.decode_missing.specs.Marks.{marks_at};
 use field::{level, product, root};
 
 // The point before the others, where its position has no mark; what is returned is where the points begin.
-fn lay_point(cells: &mut [u32], mark: usize, place: usize, point: u32) -> usize
-    requires { (mark < length cells.old) × (0 < place) × (place ≤ length cells.old) }
-    ensures place { result ≡ cond (eqb (get_or cells.old mark 0) 0) (place - 1) place }
-    ensures points { cells.new
-        ≡ cond (eqb (get_or cells.old mark 0) 0) (set cells.old (place - 1) point) cells.old }
+fn lay_point(points: &mut [u32], mark: u32, place: usize, point: u32) -> usize
+    requires { (0 < place) × (place ≤ length points.old) }
+    ensures place { result ≡ cond (eqb mark 0) (place - 1) place }
+    ensures points { points.new
+        ≡ cond (eqb mark 0) (set points.old (place - 1) point) points.old }
 {
-    if cells[mark] != 0 {
+    if mark != 0 {
         return place;
     }
     let before = place - 1;
-    cells[before] = point;
+    points[before] = point;
     before
 }
 
@@ -33,14 +33,13 @@ pub fn lay_missing(size: usize, cells: &mut [u32]) -> usize
         ≡ replicate (size - result) 0 ++ (missing_points size (marks_at size cells.old) ++ drop size cells.old) }
 {
     let root = root(level(size));
-    let marks = 2 * size;
+    let (points, rest) = cells.split_at_mut(size);
+    let marks = &rest[size..2 * size];
     let mut turn: u32 = 1;
     let mut place = size;
-    let mut j = 0;
-    while j < size {
-        place = lay_point(cells, marks + j, place, turn);
+    for mark in marks {
+        place = lay_point(points, *mark, place, turn);
         turn = product(turn, root);
-        j += 1;
     }
     size - place
 }

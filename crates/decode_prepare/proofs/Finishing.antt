@@ -3,7 +3,7 @@
 use mathlib.Core.Path.{◌≡◌, refl, sym, ap, subst, ◌∙◌}
 use mathlib.Core.Bool.{false}
 use mathlib.Core.List.{List, [], ◌∷◌, ◌++◌, append_assoc}
-use Prim.Native.Nat.{ℕ, ◌+◌, ◌-◌, ◌*◌, ◌%◌, ◌^◌, ◌<◌, ◌≤◌}
+use Prim.Native.Nat.{ℕ, zero, suc, ◌+◌, ◌-◌, ◌*◌, ◌%◌, ◌^◌, ◌<◌, ◌≤◌}
 use native.Mathlib.Omega.{arith}
 use lib.ListN.{length, get_or, take, drop, replicate, length-append, length-drop, length-replicate, take-append-drop}
 use lib.Pow.{pow_pos, pow_mono}
@@ -26,7 +26,7 @@ use Rattle.poly.specs.Value.{value}
 use Rattle.lists.proofs.Every.{every_map}
 use Rattle.poly.proofs.Products.{vanishing_symbols}
 use Rattle.poly.proofs.Symbols.{symbols_at, append_symbols}
-use Rattle.lists.proofs.Tab.{tab_length, tab_at, tab_ext}
+use Rattle.lists.proofs.Tab.{tab_at, tab_ext}
 use Rattle.poly.proofs.Values.{value-≈, value_append, value_zeros}
 use Rattle.transform_halving.specs.Transform.{transform_of}
 use Rattle.transform_halving.proofs.Sums.{values}
@@ -44,6 +44,11 @@ use Rattle.decode_prepare.specs.Prepared.{Prepared}
 use Rattle.decode_prepare.proofs.Multiplying.{zeros_symbols}
 
 -- s holds M's coefficients, and zeros behind them
+ones_tab : (n : ℕ) → replicate n 1 ≡ tab n (λ i. 1)
+unfolding tab
+ones_tab zero = refl
+ones_tab (suc n) = ap (1 ∷◌) (ones_tab n)
+
 module _ (N p : ℕ) (zs s : List ℕ) (is : s ≡ vanishing zs ++ replicate p 0) where
   value_is : (x : ℕ) → value s x ≡ value (vanishing zs) x
   value_is x = ap (λ (l : List ℕ). value l x) is ∙ value_append (vanishing zs) (replicate p 0) x ∙ rw (value_zeros p x) (omega arith)
@@ -151,18 +156,18 @@ module _ (k n : ℕ) (d : List ℕ) (shape : bad_shape k n ≡ false) (long : le
 
     -- where nothing is missing
 
-    module _ (all : r ≡ 0) (e : List ℕ) (ones : e ≡ tab (length (take (N - 0) s)) (λ i. 1)) where
+    module _ (all : r ≡ 0) (e : List ℕ) (ones : e ≡ replicate (length (take (N - 0) s)) 1) where
       abbrev pub filled : List ℕ
       filled = e ++ drop (N - 0) s
 
-      e_is : e ≡ tab N (λ i. 1)
-      e_is = ones ∙ ap (λ (m : ℕ). tab m (λ i. 1)) (length-take-le (N - 0) s (omega (arith, s_long, long_N)) ∙ plain)
+      e_is : e ≡ replicate N 1
+      e_is = ones ∙ ap (λ (m : ℕ). replicate m 1) (length-take-le (N - 0) s (omega (arith, s_long, long_N)) ∙ plain)
         where
           plain : N - 0 ≡ N
           plain = omega arith
 
       e_long : length e ≡ N
-      e_long = ap length e_is ∙ tab_length N _
+      e_long = ap length e_is ∙ length-replicate {A = ℕ} N 1
 
       filled_long : length filled ≡ length d
       filled_long = length-append e _ ∙ omega (arith, e_long, length-drop (N - 0) s, s_long, long_N)
@@ -174,8 +179,8 @@ module _ (k n : ℕ) (d : List ℕ) (shape : bad_shape k n ≡ false) (long : le
           ∙ drop-drop (2 * N) (N - 0) s
           ∙ ap (λ (m : ℕ). drop m s) {x = N - 0 + 2 * N} {y = 3 * N} (omega arith)
 
-      no_weights : (z : List ℕ) → length z ≡ 0 → tab N (λ i. 1) ≡ weights N z
-      no_weights [] none = unfold weights vanishing times value in tab_ext N _ _ (λ j l. sym (ap (◌% 65537) {y = 1} (omega arith)))
+      no_weights : (z : List ℕ) → length z ≡ 0 → replicate N 1 ≡ weights N z
+      no_weights [] none = ones_tab N ∙ unfold weights vanishing times value in tab_ext N _ _ (λ j l. sym (ap (◌% 65537) {y = 1} (omega arith)))
       no_weights (z ∷ zs) none = absurd (omega arith)
 
       pub nothing_missing : Prepared k n (part (2 * size_of n) (size_of n) d) 0 filled

@@ -6,9 +6,10 @@ use Prim.Native.Nat.{ℕ, zero, suc, ◌+◌, ◌-◌, ◌*◌, ◌/◌, ◌^◌
 use native.Mathlib.Nat.{zero-mul, mod-eq_of_lt, le_of_eq, le_trans}
 use native.Mathlib.Omega.{arith}
 use lib.Dec.{lit<}
-use lib.ListN.{length, get_or, take, drop, set, replicate, length-set, length-append, length-drop, length-replicate, get_or-replicate}
+use lib.ListN.{length, get_or, take, drop, set, replicate, length-append, length-drop, length-replicate, get_or-replicate}
 use lib.Pow.{pow_pos}
 use lib.Seq.{length-take-le, take_at, drop_at, take-take, take-append-add, drop-append-add, drop-drop, get_or-take, get_or-drop, get_or-append-add, set_at, ext_get_or}
+use Rattle.std.specs.List.{copy_within}
 use Rattle.field.specs.Field.{difference, product}
 use Rattle.field.specs.Size.{level_of, size_of}
 use Rattle.field.specs.Symbol.{Symbols}
@@ -16,10 +17,8 @@ use Rattle.field.proofs.Sizes.{size_power, size_enough, size_least, size_of_powe
 use Rattle.lists.specs.Every.{Every}
 use Rattle.poly.specs.Products.{times, vanishing}
 use Rattle.poly.specs.Raised.{raised}
-use Rattle.lists.specs.Tab.{tab}
 use Rattle.poly.proofs.Products.{vanishing_length, vanishing_symbols}
 use Rattle.poly.proofs.Symbols.{append_symbols}
-use Rattle.lists.proofs.Tab.{tab_ext, tab_get_or}
 use Rattle.lists.specs.Part.{part, replaced}
 use Rattle.lists.proofs.Part.{part_length, part_join, replaced_length, replaced_at, replaced_behind, returned_part}
 use Rattle.decode_product.specs.Factors.{lowers_of}
@@ -171,21 +170,16 @@ module _ (N u : ℕ) (d : List ℕ) (long : length d ≡ 4 * N) (N_power : N ≡
 -- Brought to the front: s₁ is what multiplying out leaves
 
 module _ (N u : ℕ) (zs s₁ : List ℕ) (count : length zs ≡ u) (few : u < N) (long : length s₁ ≡ 4 * N) (there : part (N - u) u s₁ ≡ take u (vanishing zs)) where
-  brought : tab u (λ i. get_or s₁ (N - u + i) 0) ≡ lowers_of zs
-  unfolding lowers_of
-  brought =
-      tab_ext u _ _ (λ i l. sym (get_or-take u (drop (N - u) s₁) i 0 l ∙ get_or-drop (N - u) s₁ i 0))
-      ∙ ap (λ (m : ℕ). tab m (λ i. get_or (part (N - u) u s₁) i 0)) (sym (part_length (N - u) u s₁ (omega (arith, long))))
-      ∙ tab_get_or (part (N - u) u s₁)
-      ∙ there
-      ∙ ap (λ (m : ℕ). take m (vanishing zs)) (sym count)
-
   lowers_long : length (lowers_of zs) ≡ u
   lowers_long = lowers_length zs ∙ count
 
-  module _ (s₂ : List ℕ) (brings : s₂ ≡ tab u (λ i. get_or s₁ (N - u + i) 0) ++ drop u s₁) where
+  module _ (s₂ : List ℕ) (brings : s₂ ≡ copy_within s₁ (N - u) N 0) where
     s₂_is : s₂ ≡ lowers_of zs ++ drop u s₁
-    s₂_is = brings ∙ ap (◌++ drop u s₁) brought
+    unfolding lowers_of
+    s₂_is =
+        brings
+        ∙ ap (λ (n : ℕ). take n (drop (N - u) s₁) ++ drop (0 + n) s₁) {x = N - (N - u)} {y = u} (omega arith)
+        ∙ ap₂ ◌++◌ (there ∙ ap (λ (m : ℕ). take m (vanishing zs)) (sym count)) (ap (λ (n : ℕ). drop n s₁) {x = 0 + u} {y = u} (omega arith))
 
     back₂ : drop u s₂ ≡ drop u s₁
     back₂ = ap (drop u) s₂_is ∙ drop_at (lowers_of zs) (drop u s₁) u lowers_long
@@ -232,6 +226,3 @@ module _ (N u : ℕ) (zs s₁ : List ℕ) (count : length zs ≡ u) (few : u < N
       pub laid_long : length (set behind u 1) ≡ length s₁
       laid_long =
           ap length one_laid ∙ length-append (vanishing zs ++ replicate (N - u - 1) 0) (drop N s₁) ∙ omega (arith, whole_long, length-drop N s₁, long)
-
-      pub behind_long : length behind ≡ length s₁
-      behind_long = sym (length-set behind u 1) ∙ laid_long

@@ -74,8 +74,11 @@ module _ (N K : ℕ) (d : List ℕ) (room : Foldable N K d) where
           ∙ ap (drop (3 * N)) valued
           ∙ replaced_behind N K d inside (values_between N K (take N d)) values_length (3 * N) (omega (arith, room.K_fits))
 
-      pub transform_asked : Tabled s₂ 0 N (3 * N) 2
-      transform_asked = whole_tabled N s₂ (table_kept N d room.table s₂ long₂ behind₂) (subst Symbols (sym front₂) room.symbols)
+      pub transform_asked : (x t : List ℕ) → x ≡ part 0 N s₂ → t ≡ drop (3 * N) s₂ → Tabled x t 2
+      transform_asked x t lent powers =
+          whole_tabled N s₂ t (table_kept N d room.table s₂ long₂ behind₂) powers x
+          (ap length lent ∙ length-take-le N s₂ (omega (arith, long₂, room.table.long)))
+          (subst Symbols (sym (lent ∙ front₂)) room.symbols)
 
       module _ (s₃ : List ℕ) (transformed : s₃ ≡ replaced 0 N s₂ (transform_of (part 0 N s₂))) where
         inside₃ : 0 + N ≤ length s₂

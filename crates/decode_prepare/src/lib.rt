@@ -24,17 +24,7 @@ use cells::clear;
 use decode_between::values_between;
 use decode_missing::lay_missing;
 use field::{inverse, level, product, root, size};
-use transform_table::{lay_powers, transform_by};
-
-fn fill_ones(list: &mut [u32])
-    ensures { list.new ≡ tab (length list.old) (λ i. 1) }
-{
-    let mut i = 0;
-    while i < list.len() {
-        list[i] = 1;
-        i += 1;
-    }
-}
+use transform_table::{Turns, lay_powers, transform_by};
 
 // One over N·K times each of the K values in the second N cells, to the third.
 fn invert(size: usize, step: usize, cells: &mut [u32])
@@ -43,11 +33,10 @@ fn invert(size: usize, step: usize, cells: &mut [u32])
         ≡ replaced (2 * size) step cells.old (inverses_of size step (λ i. get_or cells.old (size + i) 0)) }
 {
     let factor = product(size as u32, step as u32);
-    let inverses = 2 * size;
-    let mut i = 0;
-    while i < step {
-        cells[inverses + i] = inverse(product(factor, cells[size + i]));
-        i += 1;
+    let (front, inverses) = cells.split_at_mut(2 * size);
+    let values = &front[size..size + step];
+    for (i, value) in values.iter().enumerate() {
+        inverses[i] = inverse(product(factor, *value));
     }
 }
 
@@ -61,7 +50,9 @@ fn weigh(size: usize, step: usize, cells: &mut [u32])
 {
     values_between(size, step, cells);
     invert(size, step, cells);
-    transform_by(cells, 0, size, 3 * size, 2);
+    let (front, table) = cells.split_at_mut(3 * size);
+    let turns = Turns { table, step: 2 };
+    transform_by(&mut front[0..size], turns);
 }
 
 // The powers of ψ, and the missing points before the end of the first N cells; how many they are.
@@ -88,7 +79,7 @@ pub fn prepare(k: usize, n: usize, cells: &mut [u32]) -> usize
     let size = size(n);
     let missing = begin(size, cells);
     if missing == 0 {
-        fill_ones(&mut cells[0..size]);
+        cells[0..size].fill(1);
         return 0;
     }
     lay_product(size, missing, cells);

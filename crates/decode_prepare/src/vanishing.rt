@@ -1,27 +1,13 @@
 // The coefficients of M, the product of X - z over the missing points z, in the first N of 4N cells. No entry points and for this crate alone:
 // `prepare` has laid the points.
-ghost use Rattle.std.specs.Prelude.{◌≡◌, ◌++◌, ◌+◌, ◌-◌, ◌*◌, ◌<◌, ◌≤◌, length, get_or, take, drop, replicate};
+ghost use Rattle.std.specs.Prelude.{◌≡◌, ◌++◌, ◌-◌, ◌*◌, ◌<◌, ◌≤◌, length, take, drop, replicate};
 ghost use Rattle.field.specs.Size.{level_of, size_of};
 ghost use Rattle.field.specs.Symbol.{Symbols};
 ghost use Rattle.poly.specs.Products.{vanishing};
-ghost use Rattle.lists.specs.Tab.{tab};
 ghost use Rattle.lists.specs.Part.{part};
 
 use cells::clear;
 use decode_product::multiply_out;
-
-// Numbers from a place on, to the front.
-fn bring(from: usize, count: usize, cells: &mut [u32])
-    requires { from + count ≤ length cells.old }
-    ensures { cells.new
-        ≡ tab count (λ i. get_or cells.old (from + i) 0) ++ drop count cells.old }
-{
-    let mut i = 0;
-    while i < count {
-        cells[i] = cells[from + i];
-        i += 1;
-    }
-}
 
 // The points stand at the end of the first N cells, and zeros before them. A power of two of numbers is multiplied out, some of the zeros with
 // the points: these only move the coefficients up.
@@ -49,7 +35,7 @@ pub fn lay_product(size: usize, missing: usize, cells: &mut [u32])
     ensures rest { drop (2 * size) cells.new ≡ drop (2 * size) cells.old }
 {
     multiply_points(size, missing, cells);
-    bring(size - missing, missing, cells);
+    cells.copy_within(size - missing..size, 0);
     clear(&mut cells[missing..size]);
     cells[missing] = 1;
 }

@@ -1,12 +1,12 @@
 pub mod Times
 pub mod Lowers
 pub mod Quarters
-pub mod Copying
-pub mod Stepping
 pub mod Runs
-pub mod Filling
 pub mod Padding
-pub mod Lending
 pub mod Wrapping
-pub mod Unwrapping
+pub mod Backwards
+pub mod Stepping
+pub mod Filling
 pub mod Joining
+pub mod Lending
+pub mod Unwrapping

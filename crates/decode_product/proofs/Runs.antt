@@ -5,10 +5,10 @@ use mathlib.Core.List.{List, ◌++◌}
 use Prim.Native.Nat.{ℕ, suc, ◌+◌, ◌-◌, ◌*◌, ◌%◌, ◌<◌, ◌≤◌}
 use native.Mathlib.Nat.{zero-add, add-zero}
 use native.Mathlib.Omega.{arith}
-use lib.ListN.{length, get_or, replicate, length-replicate, get_or-replicate, get_or-append, get_or-eq_default}
-use lib.Seq.{get_or-append-add}
+use lib.ListN.{length, get_or, take, drop, length-drop, replicate, length-replicate, get_or-replicate, get_or-append, get_or-eq_default}
+use lib.Seq.{length-take-le, take_all, get_or-take, get_or-drop, get_or-append-add}
 use Rattle.poly.specs.Sum.{total}
-use Rattle.poly.proofs.Sum.{total_ext, total_zero, total_append, total_more}
+use Rattle.poly.proofs.Sum.{total_ext, total_zero, total_append}
 use Rattle.decode_product.specs.Factors.{crossed, run, coefficient}
 
 -- only the terms in the middle are not 0
@@ -21,22 +21,36 @@ total_middle m n k f before behind =
     (total_append n k (λ i. f (m + i)) ∙ ap (total n (λ i. f (m + i)) +◌) (total_ext k _ (λ i. 0) behind ∙ total_zero k))
     ∙ omega arith
 
--- The products that are added up
+pub run_whole : (a b : List ℕ) (i : ℕ) → i ≡ length a → total i (λ j. get_or a j 0 * get_or b (length a - suc j) 0) ≡ run a b 0 (length a)
+unfolding run
+run_whole a b i all =
+    total_ext i _ (λ j. get_or a (0 + j) 0 * get_or b (length a - suc j) 0)
+    (λ j h. ap (λ (n : ℕ). get_or a n 0 * get_or b (length a - suc j) 0) (sym (zero-add j)))
+    ∙ ap (λ (n : ℕ). total n (λ j. get_or a (0 + j) 0 * get_or b (length a - suc j) 0)) {x = i} {y = length a - 0} (omega arith)
 
-module _ (a b : List ℕ) (from to : ℕ) where
-  pub run_none : 0 ≡ total (from - from) (λ j. get_or a (from + j) 0 * get_or b (to - suc j) 0)
-  unfolding total
-  run_none = sym (ap (λ (n : ℕ). total n (λ j. get_or a (from + j) 0 * get_or b (to - suc j) 0)) {x = from - from} {y = 0} (omega arith))
+-- The products of parts of two lists
 
-  pub run_more : (i sum x y : ℕ) → from ≤ i → sum ≡ total (i - from) (λ j. get_or a (from + j) 0 * get_or b (to - suc j) 0)
-      → x ≡ get_or a i 0 → y ≡ get_or b (to + from - suc i) 0
-      → sum + x * y ≡ total (i + 1 - from) (λ j. get_or a (from + j) 0 * get_or b (to - suc j) 0)
-  run_more i sum x y le is here there =
-      ap₂ ◌+◌ is (ap₂ ◌*◌
-      (here ∙ ap (λ (n : ℕ). get_or a n 0) {x = i} {y = from + (i - from)} (omega arith))
-      (there ∙ ap (λ (n : ℕ). get_or b n 0) {x = to + from - suc i} {y = to - suc (i - from)} (omega arith)))
-      ∙ sym (total_more (i - from) _)
-      ∙ ap (λ (n : ℕ). total n (λ j. get_or a (from + j) 0 * get_or b (to - suc j) 0)) {x = i - from + 1} {y = i + 1 - from} (omega arith)
+pub run_front : (a b : List ℕ) (n m : ℕ) → length b ≡ length a → n ≡ m → m ≤ length a
+    → run (take n a) (take n b) 0 (length (take n a)) ≡ run a b 0 m
+unfolding run
+run_front a b n m long same h =
+    ap (λ (l : ℕ). total (l - 0) (λ j. get_or (take n a) (0 + j) 0 * get_or (take n b) (l - suc j) 0)) {x = length (take n a)} {y = m} (length-take-le n a (omega arith) ∙ same)
+    ∙ total_ext (m - 0) _ _ (λ j l.
+    ap₂ ◌*◌ (get_or-take n a (0 + j) 0 (omega arith)) (get_or-take n b (m - suc j) 0 (omega arith)))
+
+pub run_behind : (a b : List ℕ) (m : ℕ) → length b ≡ length a → m ≤ length a
+    → run (take (length a - m) (drop m a)) (take (length b - m) (drop m b)) 0 (length (take (length a - m) (drop m a))) ≡ run a b m (length a)
+unfolding run
+run_behind a b m long h =
+    ap₂ (λ (s t : List ℕ). total (length s - 0) (λ j. get_or s (0 + j) 0 * get_or t (length s - suc j) 0))
+    (take_all (length a - m) (drop m a) (omega (arith, length-drop m a)))
+    (take_all (length b - m) (drop m b) (omega (arith, length-drop m b)))
+    ∙ ap (λ (l : ℕ). total (l - 0) (λ j. get_or (drop m a) (0 + j) 0 * get_or (drop m b) (l - suc j) 0)) (length-drop m a)
+    ∙ ap (λ (l : ℕ). total l (λ j. get_or (drop m a) (0 + j) 0 * get_or (drop m b) (length a - m - suc j) 0)) {x = length a - m - 0} {y = length a - m} (omega arith)
+    ∙ total_ext (length a - m) _ _ (λ j l.
+    ap₂ ◌*◌
+    (get_or-drop m a (0 + j) 0 ∙ ap (λ (n : ℕ). get_or a n 0) {x = m + (0 + j)} {y = m + j} (omega arith))
+    (get_or-drop m b (length a - m - suc j) 0 ∙ ap (λ (n : ℕ). get_or b n 0) {x = m + (length a - m - suc j)} {y = length a - suc j} (omega arith)))
 
 -- Two lists of one length
 

@@ -1,21 +1,67 @@
 -- A few points multiplied out one factor at a time in the room behind them, from the last point down.
 -- Assumes nothing.
 use mathlib.Core.Path.{◌≡◌, refl, sym, ap, ap₂, subst, ◌∙◌}
-use mathlib.Core.List.{List, [], ◌∷◌, ◌++◌}
-use Prim.Native.Nat.{ℕ, suc, ◌+◌, ◌-◌, ◌/◌, ◌<◌, ◌≤◌}
+use mathlib.Core.List.{List, [], ◌∷◌, ◌++◌, reverse}
+use Prim.Native.Nat.{ℕ, suc, ◌+◌, ◌-◌, ◌/◌, ◌<◌}
 use native.Mathlib.Omega.{arith}
-use lib.ListN.{length, get_or, take, drop, set, length-append, length-drop, length-set, drop_of_length-le}
-use lib.Seq.{length-take-le, get_or-take, take_at, drop_at, drop-cons, take-set-le, drop-set-add, take-suc-set}
+use denote.Ref.{Bor}
+use lib.ListN.{length, get_or, take, drop, set, length-drop, drop_of_length-le}
+use lib.Seq.{length-take-le, take_at, take-append-le, drop-cons, take-suc-set}
+use Rattle.std.specs.Iterator.{Yields}
+use Rattle.std.specs.Iterator.Adapters.{rev_source, rev_steps, enumerate_source, enumerate_count, enumerate_steps}
+use Rattle.std.specs.List.{enumerate_from}
+use Rattle.std.specs.Prelude.{Option, Some, None}
+use Rattle.std.specs.Slice.Iter.{iter_rest, iter_steps_back}
+use Rattle.std.specs.declared.iter.Enumerate.{Enumerate}
+use Rattle.std.specs.declared.iter.Rev.{Rev}
+use Rattle.std.proofs.Common.{Iter}
+use Rattle.std.proofs.lemmas.Grind.{get_or_default_zero}
+use Rattle.std.proofs.lemmas.Iterator.{YieldsList}
+use Rattle.std.proofs.lemmas.Iterator.Adapters.{YieldsList-from_rev_slice}
+use Rattle.std.proofs.lemmas.Iterator.Consumers.{YieldsList-from_enumerate, YieldsList-turn, YieldsList-end}
+use Rattle.std.proofs.lemmas.List.{length-reverse, get_or-reverse}
+use Rattle.std.proofs.lemmas.List.FromFn.{length-enumerate_from, get_or-enumerate_from}
 use Rattle.field.specs.Symbol.{Symbols}
 use Rattle.poly.specs.Products.{times, vanishing}
 use Rattle.poly.specs.Raised.{raised}
 use Rattle.poly.proofs.Products.{vanishing_length, vanishing_symbols}
 use Rattle.poly.proofs.Symbols.{symbols_at}
 use Rattle.decode_product.specs.Factors.{lowers_of}
-use Rattle.decode_product.specs.Halves.{SymbolsInFront, copied_within}
+use Rattle.decode_product.specs.Halves.{SymbolsInFront}
 use Rattle.decode_product.proofs.Lowers.{lowers_whole}
 use Rattle.decode_product.proofs.Quarters.{even_of}
-use Rattle.decode_product.proofs.Copying.{copied_there}
+
+-- Which point comes next, and which number it has
+
+module _ (points : List ℕ) (s : Enumerate (Rev (Iter ℕ))) (rest : iter_rest (rev_source (enumerate_source s)) ≡ points) (none : enumerate_count s ≡ 0)
+    (xs : List (ℕ × Bor ℕ)) (t u : Enumerate (Rev (Iter ℕ))) (before : Yields (enumerate_steps (rev_steps iter_steps_back)) s xs t)
+    (r : Option (ℕ × Bor ℕ)) (step : enumerate_steps (rev_steps iter_steps_back) t r u) where
+  road : YieldsList {B = ℕ × ℕ} (enumerate_steps (rev_steps iter_steps_back)) (λ p. (p.0, p.1.now)) s (enumerate_from 0 (reverse points))
+  road = YieldsList-from_enumerate (YieldsList-from_rev_slice points rest) none
+
+  road_length : length (enumerate_from 0 (reverse points)) ≡ length points
+  road_length = length-enumerate_from 0 (reverse points) ∙ length-reverse points
+
+  pub next_point : (p : ℕ × Bor ℕ) → r ≡ Some p → (length xs < length points) × (p.0 ≡ length xs) × (p.1.now ≡ get_or points (length points - suc (length xs)) 0)
+  next_point p is = (
+    inside,
+    ap (λ (q : ℕ × ℕ). q.0) both ∙ omega arith,
+    ap (λ (q : ℕ × ℕ). q.1) both
+        ∙ get_or-reverse points (length xs) p.1.now inside
+        ∙ ap (λ (n : ℕ). get_or points n p.1.now) {x = length points - 1 - length xs} {y = length points - suc (length xs)} (omega arith)
+        ∙ get_or_default_zero points (length points - suc (length xs)) p.1.now (omega (arith, inside)),
+  )
+    where
+      inside : length xs < length points
+      inside = omega (arith, (YieldsList-turn road xs t before r u p is step).0, road_length)
+
+      both : ◌≡◌ {A = ℕ × ℕ} (p.0, p.1.now) (0 + length xs, get_or (reverse points) (length xs) p.1.now)
+      both =
+          (YieldsList-turn road xs t before r u p is step).1
+          ∙ get_or-enumerate_from 0 (reverse points) (length xs) (p.0, p.1.now) (omega (arith, inside, length-reverse points))
+
+  pub no_point : r ≡ None → length xs ≡ length points
+  no_point is = (YieldsList-end road xs t before r u is step).1 ∙ road_length
 
 lowers_none : lowers_of [] ≡ []
 unfolding lowers_of
@@ -26,118 +72,68 @@ raised_lowers : (z : ℕ) (zs : List ℕ) → take (suc (length zs)) (raised z 0
 unfolding lowers_of vanishing times
 raised_lowers z zs = refl
 
--- the points are those of the front half; those from index left on are multiplied out
-pub record Stepped (d : List ℕ) (left : ℕ) (e : List ℕ) : Type 0 where
-  pub some : left ≤ length d / 2
-  pub long : length e ≡ length d
-  pub points : take (length d / 2) e ≡ take (length d / 2) d
-  pub done : take (length d / 2 - left) (drop (length d / 2) e) ≡ lowers_of (drop left (take (length d / 2) d))
-
-pub stepped_none : (d : List ℕ) → SymbolsInFront d → Stepped d (length d / 2) d
-stepped_none d good =
-    record {
-      some = omega arith;
-      long = refl;
-      points = refl;
-      done =
-          ap (λ (n : ℕ). take n (drop (length d / 2) d)) {x = length d / 2 - length d / 2} {y = 0} (omega arith)
-          ∙ sym (ap lowers_of (drop_of_length-le (take (length d / 2) d) {i = length d / 2} (omega (arith, length-take-le (length d / 2) d (omega arith)))) ∙ lowers_none);
-    }
-
-module _ (d : List ℕ) (good : SymbolsInFront d) (left : ℕ) (e : List ℕ) (t : Stepped d left e) where
-  half : ℕ
-  half = length d / 2
-
+module _ (d : List ℕ) (good : SymbolsInFront d) where
   points : List ℕ
-  unfolding half
-  points = take half d
+  points = take (length d / 2) d
 
-  even : length e ≡ half + half
-  unfolding half
-  even = t.long ∙ even_of d good.0 good.1
+  points_length : length points ≡ length d / 2
+  unfolding points
+  points_length = length-take-le (length d / 2) d (omega arith)
 
-  points_length : length points ≡ half
-  unfolding half points
-  points_length = length-take-le half d (omega arith)
+  pub stepped_none : (room : List ℕ) → take 0 room ≡ lowers_of (drop (length d / 2 - 0) (take (length d / 2) d))
+  unfolding points
+  stepped_none room = sym (ap lowers_of (drop_of_length-le points {i = length d / 2 - 0} (omega (arith, points_length))) ∙ lowers_none)
 
-  module _ (more : 0 < left) where
-    -- the highest coefficient behind those that are there, and what is lent then
-    abbrev pub marked : List ℕ
-    marked = set e (length e - (left - 1) - 1) 1
+  module _ (room : List ℕ) (n : ℕ) where
+    -- n points are multiplied out, and the highest coefficient is written behind them
+    module _ (at end : ℕ) (more : n < length (take (length d / 2) d)) (long : length room + length d / 2 ≡ length d)
+        (done : take n room ≡ lowers_of (drop (length d / 2 - n) (take (length d / 2) d))) (here : at ≡ n) (whole : end ≡ suc n) where
+      last : List ℕ
+      last = drop (length d / 2 - n) points
 
-    abbrev pub lent : List ℕ
-    lent = take (length e - (left - 1) - length d / 2) (drop (length d / 2) marked)
+      inside : n < length d / 2
+      unfolding points
+      inside = omega (arith, more, points_length)
 
-    within : left ≤ half
-    unfolding half
-    within = t.some
+      lent_is : take end (set room at 1) ≡ vanishing last
+      unfolding points last
+      lent_is =
+          ap₂ (λ (i j : ℕ). take i (set room j 1)) whole here
+          ∙ take-suc-set room n 1 (omega (arith, inside, long))
+          ∙ ap (◌++ (1 ∷ [])) done
+          ∙ sym (lowers_whole last)
 
-    lent_is : lent ≡ vanishing (drop left points)
-    unfolding half points
-    lent_is =
-        ap (λ (n : ℕ). take (length e - (left - 1) - half) (drop half (set e n 1))) {x = length e - (left - 1) - 1} {y = half + (half - left)} (omega (arith, even, within))
-        ∙ ap (λ (n : ℕ). take n (drop half (set e (half + (half - left)) 1))) {x = length e - (left - 1) - half} {y = suc (half - left)} (omega (arith, even, within))
-        ∙ ap (take (suc (half - left))) (drop-set-add half e (half - left) 1)
-        ∙ take-suc-set (drop half e) (half - left) 1 (omega (arith, even, within, length-drop half e))
-        ∙ ap (◌++ (1 ∷ [])) t.done
-        ∙ sym (lowers_whole (drop left points))
+      last_length : length (vanishing last) ≡ suc n
+      unfolding last
+      last_length = vanishing_length last ∙ omega (arith, length-drop (length d / 2 - n) points, points_length, inside)
 
-    pub lent_symbols : Symbols lent
-    lent_symbols = subst Symbols (sym lent_is) (symbols_at _ (vanishing_symbols (drop left points)))
+      pub stepped_symbols : Symbols (take end (set room at 1))
+      stepped_symbols = subst Symbols (sym lent_is) (symbols_at _ (vanishing_symbols last))
 
-    lent_length : length lent ≡ suc (half - left)
-    lent_length = ap length lent_is ∙ vanishing_length (drop left points) ∙ ap suc (length-drop left points ∙ ap (◌- left) points_length)
+      pub stepped_more : (p rest : List ℕ) (x m : ℕ) → length p ≡ length (take end (set room at 1))
+          → p ≡ take (length (take end (set room at 1))) (raised x 0 (take end (set room at 1)))
+          → x ≡ get_or (take (length d / 2) d) (length (take (length d / 2) d) - suc n) 0 → m ≡ n + 1
+          → take m (p ++ rest) ≡ lowers_of (drop (length d / 2 - m) (take (length d / 2) d))
+      unfolding points last
+      stepped_more p rest x m same is next up =
+          take_at p rest m (omega (arith, same, ap length lent_is, last_length, up))
+          ∙ is
+          ∙ ap (λ (l : List ℕ). take (length l) (raised x 0 l)) lent_is
+          ∙ ap (λ (i : ℕ). take i (raised x 0 (vanishing last))) (vanishing_length last)
+          ∙ raised_lowers x last
+          ∙ ap lowers_of
+          (ap₂ ◌∷◌ (next ∙ ap (λ (i : ℕ). get_or points (i - suc n) 0) points_length)
+          (ap (λ (i : ℕ). drop i points) {x = length d / 2 - n} {y = suc (length d / 2 - suc n)} (omega (arith, inside)))
+          ∙ sym (drop-cons points (length d / 2 - suc n) 0 (omega (arith, points_length, inside)))
+          ∙ ap (λ (i : ℕ). drop i points) {x = length d / 2 - suc n} {y = length d / 2 - m} (omega (arith, up)))
 
-    -- p is what the step leaves of it
-    module _ (p : List ℕ) (long : length p ≡ length lent) (is : p ≡ take (length lent) (raised (get_or e (left - 1) 0) 0 lent)) where
-      abbrev pub after : List ℕ
-      after = take (length d / 2) marked ++ (p ++ drop (length e - (left - 1) - length d / 2) (drop (length d / 2) marked))
-
-      marked_length : length marked ≡ half + half
-      marked_length = length-set e _ 1 ∙ even
-
-      front_length : length (take half marked) ≡ half
-      front_length = length-take-le half marked (omega (arith, marked_length))
-
-      next : get_or e (left - 1) 0 ∷ drop left points ≡ drop (left - 1) points
-      unfolding half points
-      next =
-          ap₂ ◌∷◌
-          (sym (get_or-take half e (left - 1) 0 (omega (arith, within))) ∙ ap (λ (l : List ℕ). get_or l (left - 1) 0) t.points)
-          (ap (λ (n : ℕ). drop n points) {x = left} {y = suc (left - 1)} (omega arith))
-          ∙ sym (drop-cons points (left - 1) 0 (omega (arith, points_length, within)))
-
-      stepped_lowers : p ≡ lowers_of (drop (left - 1) points)
-      stepped_lowers =
-          is
-          ∙ ap (λ (l : List ℕ). take (length l) (raised (get_or e (left - 1) 0) 0 l)) lent_is
-          ∙ ap (λ (n : ℕ). take n (raised (get_or e (left - 1) 0) 0 (vanishing (drop left points)))) (vanishing_length (drop left points))
-          ∙ raised_lowers (get_or e (left - 1) 0) (drop left points)
-          ∙ ap lowers_of next
-
-      pub stepped_more : Stepped d (left - 1) after
-      unfolding half points
-      stepped_more =
-          record {
-            some = omega (arith, within);
-            long =
-                length-append (take half marked) _
-                ∙ omega (arith, front_length, length-append p (drop (length e - (left - 1) - half) (drop half marked)), long, lent_length, length-drop (length e - (left - 1) - half) (drop half marked), length-drop half marked, marked_length, even, within, t.long);
-            points =
-                take_at (take half marked) _ half front_length
-                ∙ take-set-le half e (length e - (left - 1) - 1) 1 (omega (arith, even, within))
-                ∙ t.points;
-            done =
-                ap (take (half - (left - 1))) (drop_at (take half marked) _ half front_length)
-                ∙ take_at p _ (half - (left - 1)) (omega (arith, long, lent_length, within))
-                ∙ stepped_lowers;
-          }
-
-  pub stepped_all : left ≤ 0 → (s : List ℕ) → s ≡ copied_within (length d / 2) 0 (length d / 2) e → take (length d / 2) s ≡ lowers_of (take (length d / 2) d)
-  unfolding half points
-  stepped_all none s is =
-      ap (take half) is
-      ∙ copied_there half 0 half e (omega (arith, even)) (omega (arith, even))
-      ∙ ap (λ (n : ℕ). take n (drop half e)) {x = half} {y = half - left} (omega arith)
-      ∙ t.done
-      ∙ ap (λ (n : ℕ). lowers_of (drop n points)) {x = left} {y = 0} (omega arith)
+    pub stepped_all : n ≡ length (take (length d / 2) d) → length room + length d / 2 ≡ length d
+        → take n room ≡ lowers_of (drop (length d / 2 - n) (take (length d / 2) d))
+        → (p : List ℕ) → p ≡ room → take (length d / 2) (p ++ room) ≡ lowers_of (take (length d / 2) d)
+    unfolding points
+    stepped_all all long done p is =
+        take-append-le (length d / 2) p room (omega (arith, ap length is, long, even_of d good.0 good.1))
+        ∙ ap (take (length d / 2)) is
+        ∙ ap (λ (i : ℕ). take i room) {x = length d / 2} {y = n} (omega (arith, all, points_length))
+        ∙ done
+        ∙ ap (λ (i : ℕ). lowers_of (drop i points)) {x = length d / 2 - n} {y = 0} (omega (arith, all, points_length))

@@ -1,7 +1,6 @@
 -- Products of X - z over a list of points, by their coefficients below the highest, which is 1: a list a of w numbers stands for
 -- a_0 + a_1·X + .. + X^w, and is multiplied so.
-use Rattle.std.specs.Prelude.{List, ◌∷◌, ◌++◌, ℕ, suc, ◌+◌, ◌-◌, ◌*◌, ◌/◌, ◌%◌, length, get_or, take, replicate}
-use Rattle.field.specs.Field.{product}
+use Rattle.std.specs.Prelude.{List, ◌∷◌, ◌++◌, ℕ, suc, ◌+◌, ◌-◌, ◌*◌, ◌%◌, length, get_or, take, replicate}
 use Rattle.poly.specs.Products.{vanishing}
 use Rattle.poly.specs.Sum.{total}
 use Rattle.lists.specs.Tab.{tab}
@@ -26,10 +25,6 @@ coefficient a b i = (crossed a b i + (get_or (replicate (length b) 0 ++ a) i 0 +
 -- the product's coefficients below the highest
 unfoldable pub monic_times : List ℕ → List ℕ → List ℕ
 monic_times a b = tab (length a + length b) (coefficient a b)
-
--- the numbers of the front half, each times the one at its place in the back half
-abbrev pub pair_products : List ℕ → List ℕ
-pair_products d = tab (length d / 2) (λ i. product (get_or d i 0) (get_or d (length d / 2 + i) 0))
 
 -- with the highest coefficient, and zeros behind it up to twice the length
 abbrev pub padded_monic : List ℕ → List ℕ

@@ -1,6 +1,6 @@
 -- What the functions of this crate ask of lent cells, and where in them two lists stand that are to be multiplied.
 use Rattle.std.specs.Prelude.{◌≡◌, List, ℕ, ◌/◌, ◌≤◌, length, take}
-use Rattle.lists.specs.Part.{part, replaced}
+use Rattle.lists.specs.Part.{part}
 use Rattle.field.specs.Size.{size_of}
 use Rattle.field.specs.Symbol.{Symbols}
 
@@ -21,6 +21,9 @@ pub record TwoFactors (d : List ℕ) : Type 0 where
   pub first : Symbols (first_factor d)
   pub second : Symbols (second_factor d)
 
--- n numbers stand at another place too
-abbrev pub copied_within : ℕ → ℕ → ℕ → List ℕ → List ℕ
-copied_within from to n d = replaced to n d (part from n d)
+-- two lists of symbols of one length, few enough that the sum of their products fits
+pub record ShortLists (a b : List ℕ) : Type 0 where
+  pub long : length b ≡ length a
+  pub short : length a ≤ 16384
+  pub first : Symbols a
+  pub second : Symbols b

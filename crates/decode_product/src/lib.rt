@@ -2,7 +2,6 @@
 // halves of the list are multiplied, in one way where they are short and in another where they are long, so that few products are reduced.
 #![tactic(auto)]
 
-mod moving;
 mod singly;
 mod sums;
 mod transforms;
@@ -11,7 +10,6 @@ ghost use Rattle.std.specs.Prelude.{◌≡◌, ◌/◌, length, take};
 ghost use Rattle.decode_product.specs.Factors.{lowers_of, monic_times};
 ghost use Rattle.decode_product.specs.Halves.{SymbolsInFront, TwoFactors, first_factor, second_factor};
 
-use crate::moving::copy_within;
 use crate::singly::multiply_few;
 
 // Up to so many points one factor at a time takes fewer instructions than halves that are multiplied.
@@ -38,14 +36,14 @@ pub fn multiply_out(cells: &mut [u32])
     ensures { take (length cells.old / 2) cells.new
         ≡ lowers_of (take (length cells.old / 2) cells.old) }
 {
-    if cells.len() / 2 <= FEW {
+    let half = cells.len() / 2;
+    if half <= FEW {
         multiply_few(cells);
         return;
     }
-    let quarter = cells.len() / 4;
-    copy_within(cells, quarter, quarter * 2, quarter);
-    let half = cells.len() / 2;
-    multiply_out(&mut cells[0..half]);
-    multiply_out(&mut cells[half..]);
+    cells.copy_within(half / 2..half, half);
+    let (front, back) = cells.split_at_mut(half);
+    multiply_out(front);
+    multiply_out(back);
     multiply(cells);
 }

@@ -5,7 +5,6 @@ ghost use Rattle.poly.specs.Raised.{raised};
 ghost use Rattle.decode_product.specs.Factors.{lowers_of};
 ghost use Rattle.decode_product.specs.Halves.{SymbolsInFront};
 
-use crate::moving::copy_within;
 use field::{difference, product};
 
 // (X - x) · L in place of L, without the highest coefficient, which is L's.
@@ -14,12 +13,10 @@ fn raise(cells: &mut [u32], x: u32)
     ensures { cells.new ≡ take (length cells.old) (raised x 0 cells.old) }
 {
     let mut passed: u32 = 0;
-    let mut i = 0;
-    while i < cells.len() {
-        let here = cells[i];
-        cells[i] = difference(passed, product(x, here));
+    for cell in cells.iter_mut() {
+        let here = *cell;
+        *cell = difference(passed, product(x, here));
         passed = here;
-        i += 1;
     }
 }
 
@@ -30,13 +27,10 @@ pub fn multiply_few(cells: &mut [u32])
         ≡ lowers_of (take (length cells.old / 2) cells.old) }
 {
     let half = cells.len() / 2;
-    let mut left = half;
-    while 0 < left {
-        left -= 1;
-        let x = cells[left];
-        let end = cells.len() - left;
-        cells[end - 1] = 1;
-        raise(&mut cells[half..end], x);
+    let (points, room) = cells.split_at_mut(half);
+    for (count, x) in points.iter().rev().enumerate() {
+        room[count] = 1;
+        raise(&mut room[0..count + 1], *x);
     }
-    copy_within(cells, half, 0, half);
+    points.copy_from_slice(room);
 }

@@ -1,8 +1,10 @@
 // Two long products, multiplied by their values at the roots. No entry points and for this crate alone: they ask for two lists in the halves of
 // the cells.
-ghost use Rattle.std.specs.Prelude.{◌≡◌, ◌/◌, ◌%◌, length, take};
+ghost use Rattle.std.specs.Prelude.{◌≡◌, ◌/◌, length, get_or, take};
+ghost use Rattle.field.specs.Field.{product};
+ghost use Rattle.lists.specs.Tab.{tab};
 ghost use Rattle.transform_halving.specs.Transform.{transform_of};
-ghost use Rattle.decode_product.specs.Factors.{monic_times, pair_products, padded_monic};
+ghost use Rattle.decode_product.specs.Factors.{monic_times, padded_monic};
 ghost use Rattle.decode_product.specs.Halves.{SymbolsInFront, TwoFactors, first_factor, second_factor};
 
 use cells::clear;
@@ -21,15 +23,12 @@ fn transform_whole(cells: &mut [u32])
     transform(cells);
 }
 
-fn multiply_values(cells: &mut [u32])
-    requires { length cells.old % 2 ≡ 0 }
-    ensures { take (length cells.old / 2) cells.new ≡ pair_products cells.old }
+fn multiply_values(list: &mut [u32], factors: &[u32])
+    requires { length list.old ≡ length factors.now }
+    ensures { list.new ≡ tab (length list.old) (λ i. product (get_or list.old i 0) (get_or factors.now i 0)) }
 {
-    let half = cells.len() / 2;
-    let mut i = 0;
-    while i < half {
-        cells[i] = product(cells[i], cells[half + i]);
-        i += 1;
+    for (i, value) in list.iter_mut().enumerate() {
+        *value = product(*value, factors[i]);
     }
 }
 
@@ -40,9 +39,10 @@ pub fn multiply(cells: &mut [u32])
         ≡ monic_times (first_factor cells.old) (second_factor cells.old) }
 {
     let half = cells.len() / 2;
-    transform_whole(&mut cells[0..half]);
-    transform_whole(&mut cells[half..]);
-    multiply_values(cells);
-    inverse(&mut cells[0..half]);
-    cells[0] = difference(cells[0], 1);
+    let (front, back) = cells.split_at_mut(half);
+    transform_whole(front);
+    transform_whole(back);
+    multiply_values(front, back);
+    inverse(front);
+    front[0] = difference(front[0], 1);
 }

@@ -4,6 +4,7 @@ ghost use Rattle.field.specs.Field.{sum, difference, product, power, inverse};
 ghost use Rattle.field.specs.Symbol.{IsSymbol};
 
 // Both operands are symbols, so one subtraction brings their sum back.
+#[tactic(auto, unfolding(crate::specs::Field::sum))]
 pub fn sum(a: u32, b: u32) -> u32
     requires { (a < 65537) × (b < 65537) }
     ensures { IsSymbol result (sum a b) }
@@ -12,6 +13,7 @@ pub fn sum(a: u32, b: u32) -> u32
     if plain < 65537 { plain } else { plain - 65537 }
 }
 
+#[tactic(auto, unfolding(crate::specs::Field::difference))]
 pub fn difference(a: u32, b: u32) -> u32
     requires { (a < 65537) × (b < 65537) }
     ensures { IsSymbol result (difference a b) }
@@ -20,10 +22,11 @@ pub fn difference(a: u32, b: u32) -> u32
 }
 
 // 65536 · 65536 is 2^32, one more than a u32 holds.
+#[tactic(auto, unfolding(crate::specs::Field::product))]
 pub fn product(a: u32, b: u32) -> u32
     ensures { IsSymbol result (product a b) }
 {
-    let wide = (a as u64) * (b as u64);
+    let wide = u64::from(a) * u64::from(b);
     (wide % 65537) as u32
 }
 
@@ -44,6 +47,7 @@ pub fn power(x: u32, exponent: usize) -> u32
     result
 }
 
+#[tactic(auto, unfolding(crate::specs::Field::inverse))]
 pub fn inverse(x: u32) -> u32
     ensures { IsSymbol result (inverse x) }
 {

@@ -21,16 +21,14 @@ pub fn root(level: usize) -> u32
 pub fn level(n: usize) -> usize
     ensures { IsLevel result n }
 {
-    let mut level = 0;
     let mut size = 1;
-    while level < 16 {
+    for level in 0..16 {
         if n <= size {
             return level;
         }
-        size = size * 2;
-        level += 1;
+        size *= 2;
     }
-    level
+    16
 }
 
 // N, for n up to 65536.

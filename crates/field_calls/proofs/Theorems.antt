@@ -3,10 +3,10 @@
 use mathlib.Core.Path.{sym, ◌∙◌}
 use Rattle.answers.specs.Refusals.{Answer}
 use Rattle.field_calls.specs.Theorems.{SymbolAnswerSettled, SumSettled, DifferenceSettled, ProductSettled, PowerSettled, InverseSettled, PointSettled}
-use Rattle.field_calls.proofs.Settling.{told_one, told_point_one}
+use Rattle.field_calls.proofs.Settling.{told_symbol_one, told_point_one}
 
 symbol_answer_settled : (t : Answer) → SymbolAnswerSettled t
-symbol_answer_settled t r s p q = told_one r s (p ∙ sym q)
+symbol_answer_settled t r s p q = told_symbol_one r s (p ∙ sym q)
 
 pub sum_settled : SumSettled
 sum_settled a b = symbol_answer_settled _

@@ -1,16 +1,14 @@
 -- What each field operation that callers can reach answers: its operands are counted as a list from 0.
-use Rattle.std.specs.Prelude.{◌||◌, [], ◌∷◌, ℕ, ltb, eqb}
+use Rattle.std.specs.Prelude.{◌||◌, [], ◌∷◌, ℕ, ltb, eqb, Result}
 use Rattle.field.specs.Field.{sum, difference, product, power, inverse}
-use Rattle.answers.specs.Refusals.{Answer, the_result, refused, refuse_if}
+use Rattle.answers.specs.Refusals.{Answer, the_result, refuse_if, told}
 use Rattle.limits.specs.Values.{refuse_above}
-use Rattle.field_calls.specs.declared.operations.SymbolAnswer.{SymbolAnswer}
-use Rattle.field_calls.specs.declared.operations.SymbolAnswer.TheVariants.{Symbol, Refused}
+use Rattle.answers.specs.declared.refusal.Refusal.{Refusal}
 use Rattle.answers.specs.declared.refusal.Refusal.TheVariants.{Value}
 
 -- an answer of the code, on paper
-abbrev pub told_symbol : SymbolAnswer → Answer
-told_symbol (Symbol v) = the_result (v ∷ [])
-told_symbol (Refused x) = refused x
+abbrev pub told_symbol : Result ℕ Refusal → Answer
+told_symbol = told (λ v. v ∷ [])
 
 abbrev pub sum_answer : ℕ → ℕ → Answer
 sum_answer a b = refuse_above (a ∷ b ∷ []) (the_result (sum a b ∷ []))

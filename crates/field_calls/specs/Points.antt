@@ -1,17 +1,16 @@
 -- What the point that a position stands for is answered with, by n and i.
-use Rattle.std.specs.Prelude.{[], ◌∷◌, ℕ, leb}
+use Rattle.std.specs.Prelude.{[], ◌∷◌, ℕ, leb, Result}
 use Rattle.field.specs.Points.{point_of}
-use Rattle.answers.specs.Refusals.{Answer, the_result, refused, refuse_if}
+use Rattle.field.specs.declared.points.Point.{Point}
+use Rattle.answers.specs.Refusals.{Answer, the_result, refuse_if, told}
 use Rattle.limits.specs.Shape.{bad_shape}
 use Rattle.field.specs.Size.{size_of}
+use Rattle.answers.specs.declared.refusal.Refusal.{Refusal}
 use Rattle.answers.specs.declared.refusal.Refusal.TheVariants.{Shape, Position}
-use Rattle.field_calls.specs.declared.points.PointAnswer.{PointAnswer}
-use Rattle.field_calls.specs.declared.points.PointAnswer.TheVariants as P
 
 -- an answer of the code, on paper
-abbrev pub told_point : PointAnswer → Answer
-told_point (P.Point x) = the_result (x.0 ∷ [])
-told_point (P.Refused x) = refused x
+abbrev pub told_point : Result Point Refusal → Answer
+told_point = told (λ x. x.0 ∷ [])
 
 -- "refused by SHAPE and POSITION as decode refuses with k = 1 and i as its one position"
 unfoldable pub point_answer : ℕ → ℕ → Answer

@@ -4,5 +4,5 @@
 mod operations;
 mod points;
 
-pub use operations::{SymbolAnswer, difference, inverse, power, product, sum};
-pub use points::{PointAnswer, point_at};
+pub use operations::{difference, inverse, power, product, sum};
+pub use points::point_at;

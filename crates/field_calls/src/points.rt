@@ -5,23 +5,17 @@ ghost use Rattle.field_calls.specs.Points.{told_point, point_answer};
 use answers::Refusal;
 use field::{Point, Position};
 
-#[derive(Clone, Copy)]
-pub enum PointAnswer {
-    Point(Point),
-    Refused(Refusal),
-}
-
 // n is the length of the code word.
-pub fn point_at(n: usize, position: Position) -> PointAnswer
+pub fn point_at(n: usize, position: Position) -> Result<Point, Refusal>
     ensures { told_point result ≡ point_answer n position.0 }
 {
     if limits::bad_shape(1, n) {
-        return PointAnswer::Refused(Refusal::Shape);
+        return Err(Refusal::Shape);
     }
     let size = field::size(n);
     let i = position.0;
     if n <= i {
-        return PointAnswer::Refused(Refusal::Position(0));
+        return Err(Refusal::Position(0));
     }
-    PointAnswer::Point(field::point_of(position, size))
+    Ok(field::point_of(position, size))
 }

@@ -57,3 +57,14 @@ puts_more {p = p} {q = q} {s = s} {m = m} {l = l} {at = at} {e = e} {f = f} h fi
 -- at the front
 pub puts_written : {text s t : List ℕ} {most e : ℕ} → Puts text most 0 s e t → (t ≡ written text s) × (e ≡ length text)
 puts_written {text = text} {s = s} it = (it.is ∙ sym (put_front text s), omega (arith, it.ends))
+
+-- six pieces: the first ends at a, the second at b, and so on
+pub put_six : (p q r t u v : List ℕ) (at a b c d e : ℕ) (s : List ℕ) → a ≡ at + length p → b ≡ a + length q → c ≡ b + length r → d ≡ c + length t
+    → e ≡ d + length u → at ≤ length s
+    → put v e (put u d (put t c (put r b (put q a (put p at s))))) ≡ put (p ++ (q ++ (r ++ (t ++ (u ++ v))))) at s
+put_six p q r t u v at a b c d e s i j k l m h = grind (arith, put_more, length-append, append_assoc)
+
+-- what functions are proved by that put two pieces and more, and six
+pub ruleset putting = (put_more, length-append, append_assoc)
+
+pub ruleset putting_six = (put_six, length-append)

@@ -12,6 +12,7 @@ ghost use Rattle.listing_lines.specs.Puts.{Puts};
 use crate::pieces::{put_number, put_text};
 use answers::Refusal;
 
+#[tactic(auto, using(crate::proofs::Putting::putting_six), unfolding(crate::specs::Lines::header_line))]
 pub fn put_header_line(
     k: usize,
     n: usize,
@@ -32,6 +33,7 @@ pub fn put_header_line(
     put_text(b"\n", out, end)
 }
 
+#[tactic(auto, using(crate::proofs::Putting::putting), unfolding(crate::specs::Lines::entry_line))]
 pub fn put_entry_line(
     position: usize,
     offset: usize,
@@ -48,6 +50,7 @@ pub fn put_entry_line(
     put_text(b"\n", out, end)
 }
 
+#[tactic(auto, using(crate::proofs::Putting::putting), unfolding(crate::specs::Lines::last_line))]
 pub fn put_ok(out: &mut [u8], at: usize) -> usize
     requires { at + 3 ≤ length out.old }
     ensures { Puts (last_line (the_result [])) 3 at out.old result out.new }
@@ -55,12 +58,13 @@ pub fn put_ok(out: &mut [u8], at: usize) -> usize
     put_text(b"OK\n", out, at)
 }
 
+#[tactic(auto, using(crate::proofs::Putting::putting), unfolding(crate::specs::Lines::last_line))]
 pub fn put_refused(refusal: Refusal, out: &mut [u8], at: usize) -> usize
     requires { at + 50 ≤ length out.old }
     ensures { Puts (last_line (refused refusal)) 50 at out.old result out.new }
 {
-    let number = answers::number(refusal) as usize;
+    let number = refusal.number() as usize;
     let mut end = put_number(b"REFUSED ", number, out, at);
-    end = put_number(b" ", answers::place(refusal), out, end);
+    end = put_number(b" ", refusal.place(), out, end);
     put_text(b"\n", out, end)
 }

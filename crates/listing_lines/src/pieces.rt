@@ -3,17 +3,19 @@ ghost use Rattle.std.specs.Prelude.{◌++◌, ◌+◌, ◌≤◌, length};
 ghost use Rattle.listing_lines.specs.Puts.{Puts};
 ghost use Rattle.listing_lines.specs.Text.{decimal};
 
-use cells::copy_bytes;
+use cells::copy;
 
 // Where the text ends is the answer.
+#[tactic(auto, using(crate::proofs::Putting::puts_behind))]
 pub fn put_text(text: &[u8], out: &mut [u8], at: usize) -> usize
     requires { at + length text.now ≤ length out.old }
     ensures { Puts text.now (length text.now) at out.old result out.new }
 {
-    copy_bytes(text, &mut out[at..]);
+    copy(text, &mut out[at..]);
     at + text.len()
 }
 
+#[tactic(auto, using(crate::proofs::Decimals::decimal_counted))]
 fn put_decimal(n: usize, out: &mut [u8], at: usize) -> usize
     requires { at + 20 ≤ length out.old }
     ensures { Puts (decimal n) 20 at out.old result out.new }
@@ -24,6 +26,7 @@ fn put_decimal(n: usize, out: &mut [u8], at: usize) -> usize
 }
 
 // A word, and a number behind it.
+#[tactic(auto, using(crate::proofs::Putting::putting))]
 pub fn put_number(word: &[u8], n: usize, out: &mut [u8], at: usize) -> usize
     requires { at + (length word.now + 20) ≤ length out.old }
     ensures { Puts (word.now ++ decimal n) (length word.now + 20) at

@@ -13,8 +13,7 @@ use Rattle.answers.specs.Leaves.{Leaves, leaving, written}
 use Rattle.answers.specs.Refusals.{Answer, the_result, refusal, number_of, refused, refuse_if, told_outcome, after}
 use Rattle.limits.specs.Shape.{longest}
 use Rattle.field.specs.Size.{size_of}
-use Rattle.answers.specs.declared.refusal.Outcome.{Outcome}
-use Rattle.answers.specs.declared.refusal.Outcome.TheVariants.{Done, Refused}
+use Rattle.std.specs.Prelude.{⊤, Result, Ok, Err}
 use Rattle.answers.specs.declared.refusal.Refusal.{Refusal}
 use Rattle.answers.specs.declared.refusal.Refusal.TheVariants.{Shape, Room, Few, Form}
 use Rattle.answers.proofs.Checks.{or_false}
@@ -140,11 +139,29 @@ pub long_refused : (s : List ℕ) → most_input < length s → refused Room ≡
 unfolding program_answer
 long_refused s long = rw (lt-ltb most_input (length s) long) refl
 
-pub layout_refused : (s : List ℕ) (x : Refusal) → length s ≤ most_input → layout_checks s ≡ refused x → refused x ≡ program_answer s
-layout_refused s x short bad = sym (ap (λ (a : Answer). after a (served_answer s)) bad) ∙ short_program s short
+pub layout_refused : (s : List ℕ) (r : Result ⊤ Refusal) (x : Refusal) (later : Answer) → length s ≤ most_input → r ≡ Err x
+    → refused x ≡ layout_checks s → after (told_outcome r) later ≡ program_answer s
+layout_refused s r x later short is bad =
+    ap (λ (p : Result ⊤ Refusal). after (told_outcome p) later) is
+    ∙ ap (λ (a : Answer). after a (served_answer s)) bad
+    ∙ short_program s short
 
-pub layout_passed : (s : List ℕ) → length s ≤ most_input → layout_checks s ≡ the_result [] → served_answer s ≡ program_answer s
-layout_passed s short good = sym (ap (λ (a : Answer). after a (served_answer s)) good) ∙ short_program s short
+-- b is the input as its layout passed
+pub layout_passed : (s b : List ℕ) (r : Result ⊤ Refusal) → b ≡ s → layout_checks b ≡ the_result [] → length s ≤ most_input
+    → after (told_outcome r) (the_result (length_in b ∷ [])) ≡ served_answer b
+    → after (told_outcome r) (the_result (length_in s ∷ [])) ≡ program_answer s
+layout_passed s b r same good short served =
+    ap (λ (t : List ℕ). after (told_outcome r) (the_result (length_in t ∷ []))) (sym same)
+    ∙ served
+    ∙ ap served_answer same
+    ∙ sym (ap (λ (a : Answer). after a (served_answer s)) (ap layout_checks (sym same) ∙ good))
+    ∙ short_program s short
+
+-- what `program_answer` is proved by
+pub ruleset programmed = (long_refused, layout_refused, layout_passed)
+
+-- and `served_answer`
+pub ruleset served = (n_refused, length_refused, held_refused)
 
 -- Where the listing is printed, the layout is good and the table short
 
@@ -181,16 +198,16 @@ unfolding printed
 alone_printed s a is e = rw (is, e) refl
 
 -- and what is left: text and work are what was lent, w what the working space holds, o the answer of the code
-module _ (s text work w : List ℕ) (m : ℕ) (same : m ≡ length work) (cleared : w ≡ replicate m 0) (o : Outcome) (answers : after (told_outcome o) (the_result (length_in s ∷ [])) ≡ program_answer s) where
+module _ (s text work w : List ℕ) (m : ℕ) (same : m ≡ length work) (cleared : w ≡ replicate m 0) (o : Result ⊤ Refusal) (answers : after (told_outcome o) (the_result (length_in s ∷ [])) ≡ program_answer s) where
   leaves_text : (t new : List ℕ) {most e : ℕ} → t ≡ printed s → Puts t most 0 text e new → leaving (the_result (e ∷ [])) new w ≡ list_leaves s text work
   leaves_text t new is puts =
       let it = puts_written puts in
       cc (it.0, it.1, is, cleared, same)
 
   -- the file can be read
-  module _ (is : o ≡ Done) where
+  module _ (u : ⊤) (is : o ≡ Ok u) where
     whole : program_answer s ≡ the_result (length_in s ∷ [])
-    whole = sym answers ∙ ap (λ (p : Outcome). after (told_outcome p) (the_result (length_in s ∷ []))) is
+    whole = sym answers ∙ ap (λ (p : Result ⊤ Refusal). after (told_outcome p) (the_result (length_in s ∷ []))) is
 
     pub whole_good : (layout_checks s ≡ the_result []) × (128 + 63 * held_in s ≤ 16256)
     unfolding prints_alone
@@ -201,13 +218,13 @@ module _ (s text work w : List ℕ) (m : ℕ) (same : m ≡ length work) (cleare
     whole_leaves new puts = leaves_text (listing s ++ last_line (the_result [])) new (follows_printed s (the_result (length_in s ∷ [])) whole refl) puts
 
   -- or is refused; only is whether that line stands alone
-  module _ (x : Refusal) (number : ℕ) (only : Bool) (is : o ≡ Refused x) (numbered : number ≡ number_of x) (tested : only ≡ alone number) where
+  module _ (x : Refusal) (only : Bool) (is : o ≡ Err x) (tested : only ≡ alone (number_of x)) where
     partly : program_answer s ≡ refused x
-    partly = sym answers ∙ ap (λ (p : Outcome). after (told_outcome p) (the_result (length_in s ∷ []))) is
+    partly = sym answers ∙ ap (λ (p : Result ⊤ Refusal). after (told_outcome p) (the_result (length_in s ∷ []))) is
 
     lone : prints_alone (refused x) ≡ only
     unfolding prints_alone
-    lone = sym (tested ∙ ap alone numbered)
+    lone = sym tested
 
     pub partly_good : only ≡ false → (layout_checks s ≡ the_result []) × (128 + 63 * held_in s ≤ 16256)
     partly_good follows = follows_good s (ap prints_alone partly ∙ lone ∙ follows)

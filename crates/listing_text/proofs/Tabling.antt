@@ -27,7 +27,7 @@ entries_more s t position offset count inside p o c before line =
 -- the header's line and the entries'
 pub listing_puts : (s : List ℕ) (k n bytes held blocks : ℕ) {end next : ℕ} {out now then : List ℕ} → k ≡ k_in s → n ≡ n_in s → bytes ≡ length_in s
     → held ≡ held_in s → blocks ≡ blocks_in s → Puts (header_line k n bytes held blocks) 128 0 out end now
-    → Puts (entry_lines s held) (63 * held) end now next then → Puts (listing s) (128 + 63 * held_in s) 0 out next then
+    → Puts (entry_lines s (held_in s)) (63 * held_in s) end now next then → Puts (listing s) (128 + 63 * held_in s) 0 out next then
 unfolding listing
 listing_puts s k n bytes held blocks a b c d e header entries =
     puts_as (cc (a, b, c, d, e)) (omega arith) (puts_more (omega arith) header entries)

@@ -6,27 +6,23 @@ mod table;
 
 ghost use Rattle.std.specs.Prelude.{◌≡◌, [], ◌∷◌, ◌*◌, ◌≤◌, length};
 ghost use Rattle.answers.specs.Leaves.{leaving};
-ghost use Rattle.answers.specs.Refusals.{the_result};
+ghost use Rattle.answers.specs.Refusals.{the_result, number_of};
 ghost use Rattle.listing_text.specs.Answers.{most_n};
 ghost use Rattle.listing_text.specs.Calls.{text_room, list_leaves};
 ghost use Rattle.listing_text.specs.Listing.{alone};
 
 use crate::answer::program_answer;
 use crate::table::put_listing;
-use answers::Outcome;
+use answers::Refusal;
+use bundle_layout::Layout;
 use cells::clear;
 use listing_lines::{put_ok, put_refused};
 
-fn alone(number: u32) -> bool
-    ensures { result ≡ alone number }
+#[tactic(auto, unfolding(crate::specs::Listing::alone))]
+fn alone(refusal: Refusal) -> bool
+    ensures { result ≡ alone (number_of refusal) }
 {
-    if number == 1 {
-        return true;
-    }
-    if number == 3 {
-        return true;
-    }
-    number == 11
+    matches!(refusal, Refusal::Shape | Refusal::Room | Refusal::Form)
 }
 
 // What is printed, at the front of text; where it ends is the answer.
@@ -38,15 +34,15 @@ pub fn list(input: &[u8], text: &mut [u8], work: &mut [u32]) -> usize
     let answer = program_answer(input, work);
     clear(work);
     match answer {
-        Outcome::Done => {
-            let end = put_listing(input, text);
+        Ok(()) => {
+            let end = put_listing(Layout { bytes: input }, text);
             put_ok(text, end)
         }
-        Outcome::Refused(refusal) => {
-            if alone(answers::number(refusal)) {
+        Err(refusal) => {
+            if alone(refusal) {
                 return put_refused(refusal, text, 0);
             }
-            let end = put_listing(input, text);
+            let end = put_listing(Layout { bytes: input }, text);
             put_refused(refusal, text, end)
         }
     }

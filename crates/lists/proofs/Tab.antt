@@ -2,11 +2,11 @@
 -- Assumes nothing.
 use mathlib.Core.Path.{◌≡◌, refl, sym, ap, ◌∙◌}
 use mathlib.Core.List.{List, [], ◌∷◌, ◌++◌}
-use Prim.Native.Nat.{ℕ, zero, suc, ◌+◌, ◌<◌, suc-le-suc}
+use Prim.Native.Nat.{ℕ, zero, suc, ◌+◌, ◌<◌, ◌≤◌, suc-le-suc}
 use native.Mathlib.Nat.{not-suc-le-zero, le_of_suc-le-suc, zero-lt-suc, zero-add, suc-add}
 use native.Mathlib.Omega.{arith}
-use lib.ListN.{length, get_or, take, drop_of_length-le}
-use lib.Seq.{split_at}
+use lib.ListN.{length, get_or, take, drop, length-drop, drop_of_length-le}
+use lib.Seq.{split_at, length-take-le, get_or-take, get_or-drop}
 use Rattle.lists.specs.Tab.{tab}
 
 pub tab_length : (n : ℕ) (f : ℕ → ℕ) → length (tab n f) ≡ n
@@ -31,6 +31,13 @@ pub tab_get_or : (s : List ℕ) → tab (length s) (λ i. get_or s i 0) ≡ s
 unfolding tab
 tab_get_or [] = refl
 tab_get_or (a ∷ s) = ap (a ∷◌) (tab_get_or s)
+
+-- a part of a list, by its entries
+pub tab_part : (at n : ℕ) (s : List ℕ) → at + n ≤ length s → tab n (λ i. get_or s (at + i) 0) ≡ take n (drop at s)
+tab_part at n s h =
+    tab_ext n _ (λ i. get_or (take n (drop at s)) i 0) (λ i l. sym (get_or-take n (drop at s) i 0 l ∙ get_or-drop at s i 0))
+    ∙ ap (λ (m : ℕ). tab m (λ i. get_or (take n (drop at s)) i 0)) (sym (length-take-le n (drop at s) (omega (arith, length-drop at s))))
+    ∙ tab_get_or (take n (drop at s))
 
 pub tab_append : (m n : ℕ) (f : ℕ → ℕ) → tab (m + n) f ≡ tab m f ++ tab n (λ i. f (m + i))
 unfolding tab

@@ -80,6 +80,10 @@ window_front n f d = take_at (tab n f) _ n (tab_length n f)
 pub window_all : (n : ℕ) (f : ℕ → ℕ) (d : List ℕ) → length d ≤ n → window 0 n f d ≡ tab n f
 window_all n f d h = window_end 0 n f d (omega arith)
 
+-- a loop that has written each number of a list
+pub window_done : (n i : ℕ) (f : ℕ → ℕ) (d e : List ℕ) → length d ≡ n → i ≤ n → n ≤ i → e ≡ window 0 i f d → e ≡ tab n f
+window_done n i f d e long le ge is = is ∙ window_all i f d (omega arith) ∙ ap (λ (m : ℕ). tab m f) {x = i} {y = n} (omega arith)
+
 -- a loop that changes each number in its place
 pub window_change : (g : ℕ → ℕ) (i : ℕ) (d e : List ℕ) (v : ℕ) → i < length d → e ≡ window 0 i (λ j. g (get_or d j 0)) d
     → v ≡ g (get_or e i 0) → set e i v ≡ window 0 (i + 1) (λ j. g (get_or d j 0)) d

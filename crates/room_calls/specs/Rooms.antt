@@ -1,8 +1,9 @@
 -- What is told of a call's room: "Room needed, working space counted in numbers", the output's first, or the refusal that the call gives for the
 -- same sizes or the same bundle, whatever it is lent.
-use Rattle.std.specs.Prelude.{List, [], ◌∷◌, ℕ}
-use Rattle.answers.specs.Refusals.{Answer, the_result, refused, refuse_if, after}
+use Rattle.std.specs.Prelude.{List, [], ◌∷◌, ℕ, Result}
+use Rattle.answers.specs.Refusals.{Answer, the_result, refuse_if, after, told}
 use Rattle.limits.specs.Shape.{bad_shape}
+use Rattle.answers.specs.declared.refusal.Refusal.{Refusal}
 use Rattle.answers.specs.declared.refusal.Refusal.TheVariants.{Shape}
 use Rattle.transform.specs.Lengths.{bad_length}
 use Rattle.code.specs.Rooms.{encode_work, decode_work}
@@ -11,8 +12,7 @@ use Rattle.bundle_layout.specs.Shape.{bad_bundle_shape}
 use Rattle.bundle_layout.specs.Fields.{n_in, length_in}
 use Rattle.bundle_layout.specs.Layout.{layout_checks}
 use Rattle.bundle_layout.specs.Rooms.{write_out, bundle_work}
-use Rattle.room_calls.specs.declared.answer.RoomAnswer.{RoomAnswer}
-use Rattle.room_calls.specs.declared.answer.RoomAnswer.TheVariants as R
+use Rattle.room_calls.specs.declared.space.Space.{Space}
 
 -- "transform, working space N, where N is the length of the one list that it reads and writes": no output beside it
 unfoldable pub transform_room_answer : ℕ → Answer
@@ -35,6 +35,5 @@ unfoldable pub read_room_answer : List ℕ → Answer
 read_room_answer s = after (layout_checks s) (the_result (length_in s ∷ bundle_work (n_in s) ∷ []))
 
 -- the answer of the code, on paper: how long the output, then how long the working space has to be
-abbrev pub told_room : RoomAnswer → Answer
-told_room (R.Space r) = the_result (r.out ∷ r.work ∷ [])
-told_room (R.Refused x) = refused x
+abbrev pub told_room : Result Space Refusal → Answer
+told_room = told (λ s. s.out ∷ s.work ∷ [])

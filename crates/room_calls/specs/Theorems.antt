@@ -1,13 +1,14 @@
 -- What is proved of the definitions, as statements: proofs/Theorems.antt proves each under the same name in small letters.
-use Rattle.std.specs.Prelude.{◌≡◌, not, List, [], ◌∷◌, ◌⊎◌, ℕ, ◌<◌, ◌≤◌, eqb, length}
+use Rattle.std.specs.Prelude.{◌≡◌, not, List, [], ◌∷◌, ◌⊎◌, ℕ, ◌<◌, ◌≤◌, eqb, length, Result}
 use Rattle.answers.specs.Leaves.{Leaves}
 use Rattle.answers.specs.Refusals.{Answer, the_result, refusal, refused, refuse_if}
+use Rattle.answers.specs.declared.refusal.Refusal.{Refusal}
 use Rattle.answers.specs.declared.refusal.Refusal.TheVariants.{Length, Room}
 use Rattle.transform.specs.Calls.{transform_leaves, inverse_leaves}
 use Rattle.block.specs.Calls.{encode_leaves, decode_leaves}
 use Rattle.bundle.specs.Calls.{write_leaves, read_leaves}
 use Rattle.room_calls.specs.Rooms.{told_room, transform_room_answer, encode_room_answer, decode_room_answer, write_room_answer, read_room_answer}
-use Rattle.room_calls.specs.declared.answer.RoomAnswer.{RoomAnswer}
+use Rattle.room_calls.specs.declared.space.Space.{Space}
 
 -- The room told is the room that the call asks for
 
@@ -40,7 +41,7 @@ pub record RoomsTold : Type 0 where
 
 -- two answers that tell the same
 abbrev pub RoomAnswerSettled : Answer → Type 0
-RoomAnswerSettled told = (a b : RoomAnswer) → told_room a ≡ told → told_room b ≡ told → a ≡ b
+RoomAnswerSettled told = (a b : Result Space Refusal) → told_room a ≡ told → told_room b ≡ told → a ≡ b
 
 abbrev pub TransformRoomSettled : Type 0
 TransformRoomSettled = (N : ℕ) → RoomAnswerSettled (transform_room_answer N)

@@ -6,20 +6,18 @@ ghost use Rattle.bundle.specs.Calls.{write_leaves, read_leaves};
 ghost use Rattle.answers.specs.Telling.{status_number};
 ghost use Rattle.sulmirejo.specs.Face.{returned_number, with_lists, lists_returned_number, with_facts, facts_returned, with_entry, entry_returned};
 
-use answers::{Outcome, tell};
-use bundle::LengthAnswer;
-use bundle_layout::{EntryAnswer, FactsAnswer};
+use answers::{Refusal, tell};
 
 // 0 or the refusal's number; the length or the place goes to number.
-fn tell_length(answer: LengthAnswer, number: &mut usize) -> u32
+fn tell_length(answer: Result<usize, Refusal>, number: &mut usize) -> u32
     ensures { status_number result number.new ≡ returned_number (told_length answer) }
 {
     match answer {
-        LengthAnswer::Length(length) => {
+        Ok(length) => {
             *number = length;
             0
         }
-        LengthAnswer::Refused(refusal) => tell(Outcome::Refused(refusal), number),
+        Err(refusal) => tell(Err(refusal), number),
     }
 }
 
@@ -35,8 +33,7 @@ pub extern "C" fn sulmirejo_write(
     ensures { with_lists (status_number result number.new) out.new work.new
         ≡ lists_returned_number (write_leaves k n file.now out.old work.old) }
 {
-    let answer = bundle::write(k, n, file, out, work);
-    tell_length(answer, number)
+    tell_length(bundle::write(k, n, file, out, work), number)
 }
 
 #[unsafe(no_mangle)]
@@ -49,8 +46,7 @@ pub extern "C" fn sulmirejo_read(
     ensures { with_lists (status_number result number.new) out.new work.new
         ≡ lists_returned_number (read_leaves bundle.now out.old work.old) }
 {
-    let answer = bundle::read(bundle, out, work);
-    tell_length(answer, number)
+    tell_length(bundle::read(bundle, out, work), number)
 }
 
 // What the header says.
@@ -70,15 +66,15 @@ pub extern "C" fn sulmirejo_facts(
         k.old n.old length.old held.old blocks.old }
 {
     match bundle_layout::facts_of(bundle) {
-        FactsAnswer::Facts(facts) => {
+        Ok(facts) => {
             *k = facts.k;
             *n = facts.n;
             *length = facts.length;
             *held = facts.held;
             *blocks = facts.blocks;
-            tell(Outcome::Done, number)
+            tell(Ok(()), number)
         }
-        FactsAnswer::Refused(refusal) => tell(Outcome::Refused(refusal), number),
+        Err(refusal) => tell(Err(refusal), number),
     }
 }
 
@@ -96,12 +92,12 @@ pub extern "C" fn sulmirejo_entry(
         ≡ entry_returned (entry_answer bundle.now index) position.old offset.old count.old }
 {
     match bundle_layout::entry_of(bundle, index) {
-        EntryAnswer::Entry(entry) => {
+        Ok(entry) => {
             *position = entry.position;
             *offset = entry.offset;
             *count = entry.count;
-            tell(Outcome::Done, number)
+            tell(Ok(()), number)
         }
-        EntryAnswer::Refused(refusal) => tell(Outcome::Refused(refusal), number),
+        Err(refusal) => tell(Err(refusal), number),
     }
 }

@@ -12,9 +12,8 @@ ghost use Rattle.block.specs.Calls.{encode_leaves, decode_leaves};
 ghost use Rattle.answers.specs.Telling.{status_number};
 ghost use Rattle.sulmirejo.specs.Face.{with_point, point_returned, with_lists, lists_returned};
 
-use answers::{Outcome, tell};
+use answers::tell;
 use field::Position;
-use field_calls::PointAnswer;
 
 #[unsafe(no_mangle)]
 pub extern "C" fn sulmirejo_point(
@@ -27,12 +26,11 @@ pub extern "C" fn sulmirejo_point(
         ≡ point_returned (point_answer n position) point.old }
 {
     match field_calls::point_at(n, Position(position)) {
-        PointAnswer::Point(found) => {
-            let value = found.0;
-            *point = value;
-            tell(Outcome::Done, number)
+        Ok(found) => {
+            *point = found.0;
+            tell(Ok(()), number)
         }
-        PointAnswer::Refused(refusal) => tell(Outcome::Refused(refusal), number),
+        Err(refusal) => tell(Err(refusal), number),
     }
 }
 
@@ -41,8 +39,7 @@ pub extern "C" fn sulmirejo_transform(list: &mut [u32], work: &mut [u32], number
     ensures { with_lists (status_number result number.new) list.new work.new
         ≡ lists_returned (transform_leaves list.old work.old) }
 {
-    let outcome = transform::transform(list, work);
-    tell(outcome, number)
+    tell(transform::transform(list, work), number)
 }
 
 #[unsafe(no_mangle)]
@@ -50,8 +47,7 @@ pub extern "C" fn sulmirejo_inverse(list: &mut [u32], work: &mut [u32], number: 
     ensures { with_lists (status_number result number.new) list.new work.new
         ≡ lists_returned (inverse_leaves list.old work.old) }
 {
-    let outcome = transform::inverse(list, work);
-    tell(outcome, number)
+    tell(transform::inverse(list, work), number)
 }
 
 #[unsafe(no_mangle)]
@@ -66,8 +62,7 @@ pub extern "C" fn sulmirejo_encode(
     ensures { with_lists (status_number result number.new) out.new work.new
         ≡ lists_returned (encode_leaves k n message.now out.old work.old) }
 {
-    let outcome = block::encode(k, n, message, out, work);
-    tell(outcome, number)
+    tell(block::encode(k, n, message, out, work), number)
 }
 
 #[unsafe(no_mangle)]
@@ -83,6 +78,5 @@ pub extern "C" fn sulmirejo_decode(
     ensures { with_lists (status_number result number.new) out.new work.new
         ≡ lists_returned (decode_leaves k n positions.now values.now out.old work.old) }
 {
-    let outcome = block::decode(k, n, positions, values, out, work);
-    tell(outcome, number)
+    tell(block::decode(k, n, positions, values, out, work), number)
 }

@@ -4,25 +4,31 @@ ghost use Rattle.room_calls.specs.Rooms.{told_room, transform_room_answer, encod
 ghost use Rattle.answers.specs.Telling.{status_number};
 ghost use Rattle.sulmirejo.specs.Face.{with_room, room_returned};
 
-use answers::{Outcome, tell};
-use room_calls::RoomAnswer;
+use answers::{Refusal, tell};
+use room_calls::Space;
 
 // The room goes to out and work where there is one.
-fn tell_room(answer: RoomAnswer, out: &mut usize, work: &mut usize, number: &mut usize) -> u32
+fn tell_room(
+    answer: Result<Space, Refusal>,
+    out: &mut usize,
+    work: &mut usize,
+    number: &mut usize,
+) -> u32
     ensures { with_room (status_number result number.new) out.new work.new
         ≡ room_returned (told_room answer) out.old work.old }
 {
     match answer {
-        RoomAnswer::Space(space) => {
+        Ok(space) => {
             *out = space.out;
             *work = space.work;
-            tell(Outcome::Done, number)
+            tell(Ok(()), number)
         }
-        RoomAnswer::Refused(refusal) => tell(Outcome::Refused(refusal), number),
+        Err(refusal) => tell(Err(refusal), number),
     }
 }
 
 // There is no output to tell of: in its place stands 0, before and afterwards.
+#[tactic(auto, unfolding(room_calls::specs::Rooms::transform_room_answer))]
 #[unsafe(no_mangle)]
 pub extern "C" fn sulmirejo_transform_room(
     length: usize,

@@ -1,20 +1,22 @@
--- What the checks tell: where they pass, the list can be transformed and there is room.
+-- What the checks tell: where they pass, the list can be transformed and there is room; and what is left then.
 -- Assumes nothing.
-use mathlib.Core.Path.{◌≡◌, refl, sym}
-use mathlib.Core.Bool.{false, ◌||◌}
-use mathlib.Core.List.{List, []}
-use Prim.Native.Nat.{ℕ, ◌≤◌}
+use mathlib.Core.Path.{◌≡◌, sym, ap, ap₂, ◌∙◌}
+use mathlib.Core.Bool.{Bool, false, ◌||◌}
+use mathlib.Core.List.{List, [], ◌++◌}
+use Prim.Native.Nat.{ℕ, ◌-◌, ◌≤◌}
 use borrow.Author.Tests.{ltb-false, eqb-true, not-false}
 use lib.Dec.{ltb, eqb}
-use lib.ListN.{length}
-use Rattle.answers.specs.Refusals.{the_result}
+use lib.ListN.{length, take, drop, replicate}
+use Rattle.answers.specs.Leaves.{leaving}
+use Rattle.answers.specs.Refusals.{the_result, refuse_if}
 use Rattle.limits.specs.Shape.{longest}
 use Rattle.field.specs.Size.{size_of}
-use Rattle.limits.specs.Values.{first_above}
-use Rattle.answers.specs.declared.refusal.Refusal.TheVariants.{Shape, Room, Value}
+use Rattle.limits.specs.Values.{refuse_above}
+use Rattle.answers.specs.declared.refusal.Refusal.TheVariants.{Shape, Room}
 use Rattle.answers.proofs.Checks.{passed, or_false}
-use Rattle.limits.proofs.Values.{all_symbols}
-use Rattle.transform.specs.Calls.{transform_checks}
+use Rattle.answers.proofs.Leaves.{leaves_done, lent_length, zeroed_part}
+use Rattle.limits.proofs.Values.{symbols_passed}
+use Rattle.transform.specs.Calls.{transform_checks, one_of, call_leaves}
 use Rattle.transform.specs.Lengths.{bad_length}
 use Rattle.transform_halving.specs.Transformable.{Transformable}
 
@@ -22,21 +24,30 @@ pub good_size : (n : ℕ) → bad_length n ≡ false → n ≡ size_of n
 unfolding bad_length
 good_size n e = sym (eqb-true (size_of n) n (not-false _ (or_false (eqb n 0 || ltb longest n) _ e).1))
 
-pub record Good (list : List ℕ) (room : ℕ) : Type 0 where
-  pub able : Transformable list
-  pub enough : length list ≤ room
+-- of a list and the length of the working space
+module _ (list : List ℕ) (room : ℕ) (good : the_result [] ≡ transform_checks list room) where
+  after_shape : (bad_length (length list) ≡ false) × (refuse_if (ltb room (length list)) Room (refuse_above list (the_result [])) ≡ the_result [])
+  unfolding transform_checks
+  after_shape = passed (bad_length (length list)) Shape _ [] (sym good)
 
-pub checks_good : (list : List ℕ) (room : ℕ) → transform_checks list room ≡ the_result [] → Good list room
-unfolding transform_checks
-checks_good list room e =
-    let shape = passed (bad_length (length list)) Shape _ [] e in
-    let enough = passed (ltb room (length list)) Room _ [] shape.1 in
-    let above = passed (ltb (first_above list) (length list)) (Value (first_above list)) (the_result []) [] enough.1 in
-    record {
-      able =
-          record {
-            size = good_size (length list) shape.0;
-            symbols = all_symbols list refl (ltb-false (first_above list) (length list) above.0);
-          };
-      enough = ltb-false room (length list) enough.0;
-    }
+  after_room : (ltb room (length list) ≡ false) × (refuse_above list (the_result []) ≡ the_result [])
+  after_room = passed (ltb room (length list)) Room _ [] after_shape.1
+
+  pub checks_able : Transformable list
+  checks_able = record { size = good_size (length list) after_shape.0; symbols = symbols_passed list (sym after_room.1) }
+
+  pub checks_enough : length list ≤ room
+  checks_enough = ltb-false room (length list) after_room.0
+
+-- what is left once the list is transformed and as much of the working space as it is long cleared
+pub both_leave : (back : Bool) (list work now e : List ℕ) → the_result [] ≡ transform_checks list (length work) → now ≡ one_of back list
+    → length now ≡ length list → e ≡ replicate (length (take (length now - 0) work)) 0
+    → leaving (the_result []) now (e ++ drop (length now - 0) work) ≡ call_leaves back list work
+both_leave back list work now e good is long zeros =
+    let enough = checks_enough list (length work) good in
+    ap₂ (leaving (the_result [])) is
+    (zeroed_part (length now) (length list) work long enough e (zeros ∙ ap (λ (m : ℕ). replicate m 0) (lent_length (length now) (length list) work long enough)))
+    ∙ leaves_done (transform_checks list (length work)) list work _ (sym good)
+
+-- what both calls are proved by
+pub ruleset calls = (checks_able, checks_enough, both_leave)

@@ -2,55 +2,34 @@
 ghost use Rattle.std.specs.Prelude.{◌≡◌};
 ghost use Rattle.answers.specs.Leaves.{leaving};
 ghost use Rattle.answers.specs.Refusals.{told_outcome};
-ghost use Rattle.transform.specs.Calls.{one_of, call_leaves, transform_leaves, inverse_leaves};
-ghost use Rattle.transform_halving.specs.Transformable.{Transformable};
+ghost use Rattle.transform.specs.Calls.{transform_leaves, inverse_leaves};
 
 use crate::checks::transform_checks;
-use answers::Outcome;
+use answers::Refusal;
 use cells::clear;
-
-// The transform, or the inverse where back is asked.
-fn one_of(back: bool, list: &mut [u32])
-    requires { Transformable list.old }
-    ensures { list.new ≡ one_of back list.old }
-{
-    if back {
-        transform_halving::inverse(list);
-        return;
-    }
-    transform_halving::transform(list);
-}
-
-// Both calls: the checks, the work in place, and the working space cleared.
-fn call(back: bool, list: &mut [u32], work: &mut [u32]) -> Outcome
-    ensures { leaving (told_outcome result) list.new work.new
-        ≡ call_leaves back list.old work.old }
-{
-    let size = list.len();
-    match transform_checks(list, work.len()) {
-        Outcome::Done => {
-            one_of(back, list);
-            clear(&mut work[0..size]);
-            Outcome::Done
-        }
-        Outcome::Refused(refusal) => Outcome::Refused(refusal),
-    }
-}
 
 // A_j = sum over i of a_i · r^(ij), in place of the list. As much of the working space as the list is long is zero
 // afterwards.
-pub fn transform(list: &mut [u32], work: &mut [u32]) -> Outcome
+#[tactic(auto, using(crate::proofs::Passing::calls))]
+pub fn transform(list: &mut [u32], work: &mut [u32]) -> Result<(), Refusal>
     ensures { leaving (told_outcome result) list.new work.new
         ≡ transform_leaves list.old work.old }
 {
-    call(false, list, work)
+    transform_checks(list, work.len())?;
+    transform_halving::transform(list);
+    clear(&mut work[0..list.len()]);
+    Ok(())
 }
 
 // a_j = (1/N) · sum over i of A_i · r^(-ij), in place of the list. As much of the working space as the list is long is zero
 // afterwards.
-pub fn inverse(list: &mut [u32], work: &mut [u32]) -> Outcome
+#[tactic(auto, using(crate::proofs::Passing::calls))]
+pub fn inverse(list: &mut [u32], work: &mut [u32]) -> Result<(), Refusal>
     ensures { leaving (told_outcome result) list.new work.new
         ≡ inverse_leaves list.old work.old }
 {
-    call(true, list, work)
+    transform_checks(list, work.len())?;
+    transform_halving::inverse(list);
+    clear(&mut work[0..list.len()]);
+    Ok(())
 }

@@ -1,12 +1,12 @@
--- The two halves of a list that can be transformed can be, and what stands in a list whose halves are lent and written one after the other.
+-- The two halves of a list that can be transformed can be, and what stands in a list whose halves are halved.
 -- Assumes nothing.
 use mathlib.Core.Path.{◌≡◌, refl, sym, ap, ap₂, subst, ◌∙◌}
-use mathlib.Core.List.{List, ◌++◌, append-nil}
-use Prim.Native.Nat.{ℕ, zero, suc, ◌+◌, ◌-◌, ◌^◌, ◌/◌, ◌%◌, ◌<◌, ◌≤◌}
+use mathlib.Core.List.{List, ◌++◌}
+use Prim.Native.Nat.{ℕ, zero, suc, ◌+◌, ◌^◌, ◌/◌, ◌%◌, ◌<◌, ◌≤◌}
 use native.Mathlib.Omega.{arith}
-use lib.ListN.{length, get_or, take, drop, length-append, length-drop, drop_of_length-le}
+use lib.ListN.{length, get_or, take, drop, length-append, length-drop}
 use lib.Pow.{pow_pos}
-use lib.Seq.{length-take-le, take_at, drop_at, take_all, get_or-take, get_or-drop}
+use lib.Seq.{length-take-le, take_at, drop_at, get_or-take, get_or-drop}
 use Rattle.field.specs.Field.{sum, difference, product}
 use Rattle.field.specs.Size.{level_of}
 use Rattle.field.specs.Symbol.{Symbols}
@@ -16,7 +16,7 @@ use Rattle.lists.specs.Tab.{tab}
 use Rattle.poly.proofs.Symbols.{append_symbols, tab_symbols}
 use Rattle.lists.proofs.Tab.{tab_length}
 use Rattle.transform_halving.specs.Halving.{turned, joined}
-use Rattle.transform_halving.specs.InPlace.{halved}
+use Rattle.transform_halving.specs.InPlace.{joined_halves, halved}
 use Rattle.transform_halving.specs.Transformable.{Transformable}
 use Rattle.transform_halving.proofs.Transformable.{transformable_of, transformable_power}
 
@@ -67,124 +67,73 @@ halved_length (suc k) r a e =
     joined_length r _ _
     ∙ omega (arith, halved_length k (product r r) (take (2 ^ k) a) (length-take-le (2 ^ k) a (omega arith)))
 
--- The halves of a list of more than one number, lent one after the other: e is what the first is left with, o the second
+-- The halves of a list of more than one number, which are lent: e is what the first becomes, o the second
 
 module _ (d : List ℕ) (able : Transformable d) (many : 2 ≤ length d) where
-  p : Pair d
+  abbrev p : Pair d
   p = pair_of d able many
 
-  front_length : length (take (length d / 2) d) ≡ 2 ^ p.k
-  front_length = length-take-le (length d / 2) d (omega arith) ∙ p.half
+  module _ (f b : List ℕ) (front : f ≡ take (length d / 2) d) (back : b ≡ drop (length d / 2) d) where
+    pub front_length : length f ≡ 2 ^ p.k
+    front_length = ap length front ∙ length-take-le (length d / 2) d (omega arith) ∙ p.half
 
-  back_length : length (drop (length d / 2) d) ≡ 2 ^ p.k
-  back_length = length-drop (length d / 2) d ∙ omega (arith, p.half, p.whole)
+    pub back_length : length b ≡ 2 ^ p.k
+    back_length = ap length back ∙ length-drop (length d / 2) d ∙ omega (arith, p.half, p.whole)
 
-  front_transformable : Transformable (take (length d / 2) d)
-  front_transformable =
-      transformable_of p.k p.few _ front_length
-      (λ i h. rw (get_or-take (length d / 2) d i 0 (omega (arith, front_length, p.half))) (able.symbols i (omega (arith, front_length, p.whole))))
+    pub front_transformable : Transformable f
+    front_transformable =
+        transformable_of p.k p.few f front_length
+        (λ i h. rw (front, get_or-take (length d / 2) d i 0 (omega (arith, front_length, p.half))) (able.symbols i (omega (arith, front_length, p.whole))))
 
-  back_transformable : Transformable (drop (length d / 2) d)
-  back_transformable =
-      transformable_of p.k p.few _ back_length
-      (λ i h. rw (get_or-drop (length d / 2) d i 0) (able.symbols (length d / 2 + i) (omega (arith, back_length, p.half, p.whole))))
+    pub back_transformable : Transformable b
+    back_transformable =
+        transformable_of p.k p.few b back_length
+        (λ i h. rw (back, get_or-drop (length d / 2) d i 0) (able.symbols (length d / 2 + i) (omega (arith, back_length, p.half, p.whole))))
 
-  -- what the first call is lent
-  abbrev pub first : List ℕ
-  first = take (length d / 2 - 0) d
+    -- at roots that are the square of the whole's
+    module _ (root r q : ℕ) (r_is : r ≡ product root root) (q_is : q ≡ product root root) (e o : List ℕ) (one : e ≡ halved (level_of (length f)) r f) (two : o ≡ halved (level_of (length b)) q b) where
+      -- a half, by the level below
+      half_is : (s x t : List ℕ) (y : ℕ) → y ≡ product root root → length t ≡ 2 ^ p.k → s ≡ halved (level_of (length t)) y t → t ≡ x
+          → s ≡ halved p.k (product root root) x
+      half_is s x t y squared long done is =
+          done
+          ∙ ap₂ (λ (l z : ℕ). halved l z t) (ap level_of long ∙ level_power p.k p.few) squared
+          ∙ ap (halved p.k (product root root)) is
 
-  first_is : first ≡ take (length d / 2) d
-  first_is = ap (λ (m : ℕ). take m d) {x = length d / 2 - 0} {y = length d / 2} (omega arith)
+      e_long : length e ≡ 2 ^ p.k
+      e_long = ap length (half_is e f f r r_is front_length one refl) ∙ halved_length p.k (product root root) f front_length
 
-  pub first_transformable : Transformable first
-  first_transformable = rw first_is front_transformable
+      o_long : length o ≡ 2 ^ p.k
+      o_long = ap length (half_is o b b q q_is back_length two refl) ∙ halved_length p.k (product root root) b back_length
 
-  pub first_less : length first < length d
-  first_less = rw first_is (omega (arith, front_length, p.whole, pow_pos p.k))
+      pub both_length : length (e ++ o) ≡ length d
+      both_length = length-append e o ∙ omega (arith, e_long, o_long, p.whole)
 
-  module _ (e : List ℕ) (long : length e ≡ length first) where
-    -- the list after the first call, and what the second is lent
-    abbrev pub between : List ℕ
-    between = e ++ drop (length d / 2 - 0) d
+      pub both_even : length (e ++ o) % 2 ≡ 0
+      both_even = omega (arith, both_length, p.whole)
 
-    abbrev pub second : List ℕ
-    second = take (length between - length d / 2) (drop (length d / 2) between)
+      pub both_symbols : Symbols (e ++ o)
+      both_symbols =
+          append_symbols e o
+          (subst Symbols (sym one) (halved_symbols _ r f front_transformable.symbols))
+          (subst Symbols (sym two) (halved_symbols _ q b back_transformable.symbols))
 
-    e_long : length e ≡ length d / 2
-    e_long = long ∙ ap length first_is ∙ front_length ∙ sym p.half
+      pub both_transformable : Transformable (e ++ o)
+      both_transformable = transformable_of (suc p.k) (omega (arith, p.level, level_le (length d))) (e ++ o) (omega (arith, both_length, p.whole)) both_symbols
 
-    between_tail : drop (length d / 2) between ≡ drop (length d / 2) d
-    between_tail =
-        drop_at e (drop (length d / 2 - 0) d) (length d / 2) e_long
-        ∙ ap (λ (m : ℕ). drop m d) {x = length d / 2 - 0} {y = length d / 2} (omega arith)
+      halves_joined : joined root e o ≡ halved (level_of (length d)) root d
+      unfolding halved
+      halves_joined =
+          ap₂ (joined root)
+          (half_is e _ f r r_is front_length one (front ∙ ap (λ (m : ℕ). take m d) p.half))
+          (half_is o _ b q q_is back_length two (back ∙ ap (λ (m : ℕ). drop m d) p.half))
+          ∙ sym (ap (λ (l : ℕ). halved l root d) p.level)
 
-    between_length : length between ≡ length d
-    between_length = length-append e _ ∙ omega (arith, e_long, length-drop (length d / 2 - 0) d)
-
-    second_is : second ≡ drop (length d / 2) d
-    second_is =
-        ap (take (length between - length d / 2)) between_tail
-        ∙ take_all (length between - length d / 2) _ (omega (arith, between_length, length-drop (length d / 2) d))
-
-    pub second_transformable : Transformable second
-    second_transformable = rw second_is back_transformable
-
-    pub second_less : length second < length d
-    second_less = rw second_is (omega (arith, back_length, p.whole, pow_pos p.k))
-
-    module _ (o : List ℕ) (long' : length o ≡ length second) where
-      -- the list after the second call
-      abbrev pub after : List ℕ
-      after = take (length d / 2) between ++ (o ++ drop (length between - length d / 2) (drop (length d / 2) between))
-
-      after_is : after ≡ e ++ o
-      after_is =
-          ap₂ ◌++◌
-          (take_at e (drop (length d / 2 - 0) d) (length d / 2) e_long)
-          (ap (o ++◌)
-          (ap (drop (length between - length d / 2)) between_tail
-          ∙ drop_of_length-le (drop (length d / 2) d) {i = length between - length d / 2} (omega (arith, between_length, length-drop (length d / 2) d)))
-          ∙ append-nil o)
-
-      o_long : length o ≡ length d / 2
-      o_long = long' ∙ ap length second_is ∙ back_length ∙ sym p.half
-
-      pub after_length : length after ≡ length d
-      after_length = ap length after_is ∙ length-append e o ∙ omega (arith, e_long, o_long, p.half, p.whole)
-
-      module _ (root square : ℕ) (squared : square ≡ product root root) (done : e ≡ halved (level_of (length first)) square first) (done' : o ≡ halved (level_of (length second)) square second) where
-        pub after_transformable : (length after % 2 ≡ 0) × Symbols after
-        after_transformable = (
-          omega (arith, after_length, p.whole),
-          subst Symbols (sym after_is)
-              (append_symbols e o
-              (subst Symbols (sym done) (halved_symbols _ _ first first_transformable.symbols))
-              (subst Symbols (sym done') (halved_symbols _ _ second second_transformable.symbols))),
-        )
-
-        -- a half, by the level below
-        half_is : (s t half : List ℕ) → t ≡ half → length half ≡ 2 ^ p.k → s ≡ halved (level_of (length t)) square t
-            → s ≡ halved p.k (product root root) half
-        half_is s t half is long done =
-            done
-            ∙ ap (λ (x : ℕ). halved (level_of (length t)) x t) squared
-            ∙ ap (λ (l : List ℕ). halved (level_of (length l)) (product root root) l) is
-            ∙ ap (λ (l : ℕ). halved l (product root root) half) (ap level_of long ∙ level_power p.k p.few)
-
-        halves_joined : joined root e o ≡ halved (level_of (length d)) root d
-        unfolding halved
-        halves_joined =
-            ap₂ (joined root)
-            (half_is e first _ first_is front_length done ∙ ap (λ (m : ℕ). halved p.k (product root root) (take m d)) p.half)
-            (half_is o second _ second_is back_length done' ∙ ap (λ (m : ℕ). halved p.k (product root root) (drop m d)) p.half)
-            ∙ sym (ap (λ (l : ℕ). halved l root d) p.level)
-
-        pub after_joined : joined root (take (length after / 2) after) (drop (length after / 2) after) ≡ halved (level_of (length d)) root d
-        after_joined =
-            ap (λ (m : ℕ). joined root (take m after) (drop m after)) {x = length after / 2} {y = length d / 2} (ap (◌/ 2) after_length)
-            ∙ ap (λ (l : List ℕ). joined root (take (length d / 2) l) (drop (length d / 2) l)) after_is
-            ∙ ap₂ (joined root) (take_at e o (length d / 2) e_long) (drop_at e o (length d / 2) e_long)
-            ∙ halves_joined
+      pub both_joined : joined_halves root (e ++ o) ≡ halved (level_of (length d)) root d
+      both_joined =
+          ap (λ (m : ℕ). joined root (take m (e ++ o)) (drop m (e ++ o))) {x = length (e ++ o) / 2} {y = 2 ^ p.k} (omega (arith, both_length, p.whole))
+          ∙ ap₂ (joined root) (take_at e o (2 ^ p.k) e_long) (drop_at e o (2 ^ p.k) e_long)
+          ∙ halves_joined
 
 -- a single number
 pub single_halved : (root : ℕ) (d : List ℕ) → Transformable d → length d < 2 → d ≡ halved (level_of (length d)) root d

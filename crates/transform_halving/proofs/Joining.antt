@@ -1,65 +1,69 @@
--- Joining the halves of one list in place: what the list holds when j pairs are joined.
+-- Joining the transforms of two halves in place: what both hold when j pairs are joined.
 -- Assumes nothing.
-use mathlib.Core.Path.{◌≡◌, refl, sym, ap, ap₂, ◌∙◌}
+use mathlib.Core.Path.{◌≡◌, sym, ap, ap₂, ◌∙◌}
 use mathlib.Core.List.{List, ◌++◌}
 use Prim.Native.Nat.{ℕ, ◌+◌, ◌<◌}
 use native.Mathlib.Nat.{zero-add}
 use native.Mathlib.Omega.{arith}
-use lib.ListN.{length, get_or, take, drop, set}
-use lib.Seq.{get_or-drop, get_or-take, length-take-le}
-use Rattle.field.specs.Field.{sum, difference}
-use Rattle.lists.proofs.Tab.{tab_ext}
-use Rattle.lists.proofs.Window.{window, window_none, window_store, window_set_before, window_before, window_past, window_length, window_end, window_front}
+use lib.ListN.{length, get_or, set, length-append, get_or-append}
+use lib.Seq.{get_or-append-add}
+use Rattle.field.specs.Field.{sum, difference, product, power}
+use Rattle.field.specs.Symbol.{Symbols}
+use Rattle.lists.specs.Tab.{tab}
+use Rattle.lists.proofs.Window.{window, window_none, window_store, window_past, window_all}
 use Rattle.transform_halving.specs.Halving.{turned, joined}
 
-module _ (d : List ℕ) (half root : ℕ) where
-  abbrev in_front : ℕ → ℕ
-  in_front x = sum (get_or d x 0) (turned root (drop half d) x)
+-- the j-th pair, joined
+abbrev pub in_front : ℕ → List ℕ → List ℕ → ℕ → ℕ
+in_front r e o j = sum (get_or e j 0) (turned r o j)
 
-  abbrev behind : ℕ → ℕ
-  behind x = difference (get_or d x 0) (turned root (drop half d) x)
+abbrev pub behind : ℕ → List ℕ → List ℕ → ℕ → ℕ
+behind r e o j = difference (get_or e j 0) (turned r o j)
 
-  unfoldable pub joining : ℕ → List ℕ
-  joining j = window half j behind (window 0 j in_front d)
+-- the lists e and o, of which j pairs are joined at the root r
+pub record Joining (r : ℕ) (e o front back : List ℕ) (j : ℕ) : Type 0 where
+  pub front_is : front ≡ window 0 j (in_front r e o) e
+  pub back_is : back ≡ window 0 j (behind r e o) o
 
-  pub joining_none : d ≡ joining 0
-  unfolding joining
-  joining_none = window_none 0 in_front d ∙ window_none half behind (window 0 0 in_front d)
+pub joining_none : (r : ℕ) (e o : List ℕ) → Joining r e o e o 0
+joining_none r e o = record { front_is = window_none 0 _ e; back_is = window_none 0 _ o }
 
-  module _ (long : half + half ≡ length d) (j : ℕ) (e : List ℕ) (is : e ≡ joining j) (h : j < half) where
-    front_length : length (window 0 j in_front d) ≡ length d
-    front_length = window_length 0 j in_front d (omega arith)
+module _ (r : ℕ) (e o front back : List ℕ) (j : ℕ) (held : Joining r e o front back j) where
+  -- a pair that is not joined yet is as it was
+  joining_even : get_or front j 0 ≡ get_or e j 0
+  joining_even = ap (λ (l : List ℕ). get_or l j 0) held.front_is ∙ window_past 0 j j _ e (omega arith) (omega arith)
 
-    pub joining_even : get_or e j 0 ≡ get_or d j 0
-    unfolding joining
-    joining_even =
-        ap (λ (l : List ℕ). get_or l j 0) is
-        ∙ window_before half j j behind (window 0 j in_front d) h (omega (arith, front_length))
-        ∙ window_past 0 j j in_front d (omega arith) (omega arith)
+  joining_odd : get_or back j 0 ≡ get_or o j 0
+  joining_odd = ap (λ (l : List ℕ). get_or l j 0) held.back_is ∙ window_past 0 j j _ o (omega arith) (omega arith)
 
-    pub joining_odd : get_or e (half + j) 0 ≡ get_or (drop half d) j 0
-    unfolding joining
-    joining_odd =
-        ap (λ (l : List ℕ). get_or l (half + j) 0) is
-        ∙ window_past half j (half + j) behind (window 0 j in_front d) (omega arith) (omega (arith, front_length))
-        ∙ window_past 0 j (half + j) in_front d (omega arith) (omega arith)
-        ∙ sym (get_or-drop half d j 0)
+  -- e and o are the parts of a list d of symbols
+  pub joining_small : (d : List ℕ) → Symbols d → d ≡ e ++ o → j < length e → j < length o → (get_or front j 0 < 65537) × (get_or back j 0 < 65537)
+  joining_small d small is h h' = (
+    rw (joining_even ∙ sym (get_or-append e o 0 j h) ∙ at j) (small j (omega (arith, long))),
+    rw (joining_odd ∙ sym (get_or-append-add e o j 0) ∙ at (length e + j)) (small (length e + j) (omega (arith, long))),
+  )
+    where
+      at : (i : ℕ) → get_or (e ++ o) i 0 ≡ get_or d i 0
+      at i = ap (λ (l : List ℕ). get_or l i 0) (sym is)
 
-    pub joining_more : (v w : ℕ) → v ≡ in_front j → w ≡ behind j → set (set e j v) (half + j) w ≡ joining (j + 1)
-    unfolding joining
-    joining_more v w front back =
-        window_store half j (half + j) behind (window 0 (j + 1) in_front d) (set e j v) w refl
-        (omega (arith, window_length 0 (j + 1) in_front d (omega arith)))
-        (ap (λ (l : List ℕ). set l j v) is
-        ∙ window_set_before half j j behind (window 0 j in_front d) v h (omega (arith, front_length))
-        ∙ ap (window half j behind) (window_store 0 j j in_front d (window 0 j in_front d) v (sym (zero-add j)) (omega arith) refl front))
-        back
+      long : length d ≡ length e + length o
+      long = ap length is ∙ length-append e o
 
-  pub joining_all : half + half ≡ length d → joining half ≡ joined root (take half d) (drop half d)
-  unfolding joining joined
-  joining_all long =
-      window_end half half behind (window 0 half in_front d) (omega (arith, window_length 0 half in_front d (omega arith)))
-      ∙ rw (window_front half in_front d, length-take-le half d (omega arith))
-      (ap₂ ◌++◌
-      (tab_ext half _ _ (λ x h. ap (λ (a : ℕ). sum a (turned root (drop half d) x)) (sym (get_or-take half d x 0 h))))
-      (tab_ext half _ _ (λ x h. ap (λ (a : ℕ). difference a (turned root (drop half d) x)) (sym (get_or-take half d x 0 h)))))
+  -- a pair joined: w is the power j of the root
+  pub joining_more : (w odd u v : ℕ) → j < length e → j < length o → w ≡ power r j → odd ≡ product w (get_or back j 0)
+      → u ≡ sum (get_or front j 0) odd → v ≡ difference (get_or front j 0) odd
+      → Joining r e o (set front j u) (set back j v) (j + 1)
+  joining_more w odd u v inside inside' turn is first second =
+      record {
+        front_is = window_store 0 j j _ e front u (sym (zero-add j)) inside held.front_is (first ∙ ap₂ sum joining_even odd_is);
+        back_is = window_store 0 j j _ o back v (sym (zero-add j)) inside' held.back_is (second ∙ ap₂ difference joining_even odd_is);
+      }
+    where
+      odd_is : odd ≡ turned r o j
+      odd_is = is ∙ ap₂ product turn joining_odd
+
+  pub joining_all : j ≡ length e → length o ≡ length e → front ++ back ≡ joined r e o
+  unfolding joined
+  joining_all end same =
+      ap₂ ◌++◌ (held.front_is ∙ window_all j _ e (omega arith)) (held.back_is ∙ window_all j _ o (omega arith))
+      ∙ ap (λ (n : ℕ). tab n (in_front r e o) ++ tab n (behind r e o)) end

@@ -32,14 +32,12 @@ fn next_place(place: usize, size: usize) -> usize
 }
 
 // Where a loop meets both places of a pair, they change once: when the lower one is met.
-pub fn exchange(list: &mut [u32], i: usize, j: usize)
+fn exchange(list: &mut [u32], i: usize, j: usize)
     requires { (i < length list.old) × (j < length list.old) }
     ensures { list.new ≡ exchanged list.old i j }
 {
     if i < j {
-        let number = list[i];
-        list[i] = list[j];
-        list[j] = number;
+        list.swap(i, j);
     }
 }
 
@@ -47,12 +45,10 @@ pub fn arrange(list: &mut [u32])
     requires { length list.old ≡ size_of (length list.old) }
     ensures { list.new ≡ arranged list.old }
 {
-    let mut i = 0;
     let mut place = 0;
-    while i < list.len() {
+    for i in 0..list.len() {
         exchange(list, i, place);
         place = next_place(place, list.len());
-        i += 1;
     }
 }
 
@@ -62,18 +58,15 @@ fn join(list: &mut [u32], root: u32)
     ensures { list.new ≡ joined_halves root list.old }
 {
     let half = list.len() / 2;
+    let (front, back) = list.split_at_mut(half);
     let mut turn: u32 = 1;
-    let mut j = 0;
-    while j < half {
-        let behind = half + j;
-        let even = list[j];
-        let odd = product(turn, list[behind]);
-        let first = sum(even, odd);
-        let second = difference(even, odd);
-        list[j] = first;
-        list[behind] = second;
+    for (j, even) in front.iter_mut().enumerate() {
+        let odd = product(turn, back[j]);
+        let first = sum(*even, odd);
+        let second = difference(*even, odd);
+        *even = first;
+        back[j] = second;
         turn = product(turn, root);
-        j += 1;
     }
 }
 
@@ -87,8 +80,9 @@ fn halve(list: &mut [u32], root: u32)
     }
     let half = list.len() / 2;
     let square = product(root, root);
-    halve(&mut list[0..half], square);
-    halve(&mut list[half..], square);
+    let (front, back) = list.split_at_mut(half);
+    halve(front, square);
+    halve(back, square);
     join(list, root);
 }
 
@@ -96,10 +90,8 @@ pub fn scale(list: &mut [u32], factor: u32)
     ensures { list.new
         ≡ tab (length list.old) (λ j. product factor (get_or list.old j 0)) }
 {
-    let mut i = 0;
-    while i < list.len() {
-        list[i] = product(factor, list[i]);
-        i += 1;
+    for number in list.iter_mut() {
+        *number = product(factor, *number);
     }
 }
 

@@ -1,4 +1,3 @@
-pub mod Turns
+pub mod Table
 pub mod Halves
 pub mod Round
-pub mod Steps

@@ -1,102 +1,111 @@
 // No entry points: the table of the powers of a root, and the transform that reads its turns from it, for who transforms several lists of one
-// size. Two parts of one slice cannot be lent at once, so list and table lie in one slice and are given by where they begin.
+// size.
 #![tactic(auto)]
 
-ghost use Rattle.std.specs.Prelude.{◌≡◌, ◌+◌, length};
+ghost use Rattle.std.specs.Prelude.{◌≡◌, ◌*◌, ◌%◌, ◌<◌, ◌≤◌, length, get_or};
 ghost use Rattle.field.specs.Field.{power, inverse};
 ghost use Rattle.field.specs.Points.{root_of};
 ghost use Rattle.field.specs.Size.{level_of};
 ghost use Rattle.lists.specs.Tab.{tab};
 ghost use Rattle.transform_halving.specs.InPlace.{joined_halves, halved};
 ghost use Rattle.transform_halving.specs.Transform.{sums, transform_of};
-ghost use Rattle.lists.specs.Part.{part, replaced};
 ghost use Rattle.transform_table.specs.Round.{turned_round};
 ghost use Rattle.transform_table.specs.Turns.{Tabled};
 
 use field::{difference, product, sum};
-use transform_halving::{arrange, exchange};
+use transform_halving::arrange;
+
+// Every step-th number of a table is a turn. So a table for N numbers serves N/2 too.
+#[derive(Clone, Copy)]
+pub struct Turns<'a> {
+    pub table: &'a [u32],
+    pub step: usize,
+}
+
+impl<'a> Turns<'a> {
+    // Turn j, the power j of the root.
+    fn at(self, j: usize) -> u32
+        requires { j * self.step < length self.table.now }
+        ensures { result ≡ get_or self.entry.table.now (j * self.entry.step) 0 }
+    {
+        self.table[j * self.step]
+    }
+
+    // Every second turn is a turn of the halves.
+    fn halves(self) -> Turns<'a>
+        requires { self.step ≤ length self.table.now }
+        ensures { (result.table.now ≡ self.entry.table.now) × (result.step ≡ 2 * self.entry.step) }
+    {
+        Turns {
+            table: self.table,
+            step: 2 * self.step,
+        }
+    }
+}
 
 pub fn lay_powers(root: u32, cells: &mut [u32])
     ensures { cells.new ≡ tab (length cells.old) (power root) }
 {
     let mut turn: u32 = 1;
-    let mut i = 0;
-    while i < cells.len() {
-        cells[i] = turn;
+    for cell in cells.iter_mut() {
+        *cell = turn;
         turn = product(turn, root);
-        i += 1;
     }
 }
 
 // The transforms of the halves lie side by side.
-fn join_by(cells: &mut [u32], at: usize, half: usize, table: usize, step: usize)
-    requires { Tabled cells.old at (half + half) table step }
-    ensures { cells.new
-        ≡ replaced at (half + half) cells.old
-        (joined_halves (root_of (half + half)) (part at (half + half) cells.old)) }
+fn join_by(list: &mut [u32], turns: Turns)
+    requires { Tabled list.old turns.table.now turns.step × (length list.old % 2 ≡ 0) }
+    ensures { list.new ≡ joined_halves (root_of (length list.old)) list.old }
 {
-    let middle = at + half;
-    let mut front = at;
-    let mut behind = middle;
-    let mut turn = table;
-    while front < middle {
-        let even = cells[front];
-        let odd = product(cells[turn], cells[behind]);
-        let first = sum(even, odd);
-        let second = difference(even, odd);
-        cells[front] = first;
-        cells[behind] = second;
-        front += 1;
-        behind += 1;
-        turn += step;
+    let half = list.len() / 2;
+    let (front, back) = list.split_at_mut(half);
+    for (j, even) in front.iter_mut().enumerate() {
+        let odd = product(turns.at(j), back[j]);
+        let first = sum(*even, odd);
+        let second = difference(*even, odd);
+        *even = first;
+        back[j] = second;
     }
 }
 
-// Every second turn is a turn of the halves. "down to size 1, which changes nothing"
-fn halve_by(cells: &mut [u32], at: usize, size: usize, table: usize, step: usize)
-    requires { Tabled cells.old at size table step }
-    ensures { cells.new
-        ≡ replaced at size cells.old (halved (level_of size) (root_of size) (part at size cells.old)) }
+// "down to size 1, which changes nothing"
+fn halve_by(list: &mut [u32], turns: Turns)
+    requires { Tabled list.old turns.table.now turns.step }
+    ensures { list.new ≡ halved (level_of (length list.old)) (root_of (length list.old)) list.old }
 {
-    if size < 2 {
+    if list.len() < 2 {
         return;
     }
-    let half = size / 2;
-    let wider = 2 * step;
-    halve_by(cells, at, half, table, wider);
-    halve_by(cells, at + half, half, table, wider);
-    join_by(cells, at, half, table, step);
+    let half = list.len() / 2;
+    let halves = turns.halves();
+    let (front, back) = list.split_at_mut(half);
+    halve_by(front, halves);
+    halve_by(back, halves);
+    join_by(list, turns);
 }
 
-pub fn transform_by(cells: &mut [u32], at: usize, size: usize, table: usize, step: usize)
-    requires { Tabled cells.old at size table step }
-    ensures { cells.new
-        ≡ replaced at size cells.old (transform_of (part at size cells.old)) }
+pub fn transform_by(list: &mut [u32], turns: Turns)
+    requires { Tabled list.old turns.table.now turns.step }
+    ensures { list.new ≡ transform_of list.old }
 {
-    let end = at + size;
-    arrange(&mut cells[at..end]);
-    halve_by(cells, at, size, table, step);
+    arrange(list);
+    halve_by(list, turns);
 }
 
 fn turn_round(list: &mut [u32])
     ensures { list.new ≡ turned_round list.old }
 {
-    let mut low = 1;
-    let mut high = list.len();
-    while low < high {
-        high -= 1;
-        exchange(list, low, high);
-        low += 1;
+    if !list.is_empty() {
+        list[1..].reverse();
     }
 }
 
 // The sums at the root's inverse, with no division by N: they are those at the root, turned round.
-pub fn back_by(cells: &mut [u32], at: usize, size: usize, table: usize, step: usize)
-    requires { Tabled cells.old at size table step }
-    ensures { cells.new
-        ≡ replaced at size cells.old (sums (inverse (root_of size)) (part at size cells.old)) }
+pub fn back_by(list: &mut [u32], turns: Turns)
+    requires { Tabled list.old turns.table.now turns.step }
+    ensures { list.new ≡ sums (inverse (root_of (length list.old))) list.old }
 {
-    let end = at + size;
-    transform_by(cells, at, size, table, step);
-    turn_round(&mut cells[at..end]);
+    transform_by(list, turns);
+    turn_round(list);
 }

@@ -1,18 +1,12 @@
 // One line for each case.
 use answers::Refusal;
-use field_calls::{PointAnswer, SymbolAnswer};
+use field::Point;
 use std::io;
 
-fn refusal(rt: &impl Print, refused: Refusal) -> io::Result<()> {
-    let number = answers::number(refused);
-    let place = answers::place(refused);
-    println!(rt; "REFUSED {number} {place}")
-}
-
-fn symbol(rt: &impl Print, answer: SymbolAnswer) -> io::Result<()> {
+fn symbol(rt: &impl Print, answer: Result<u32, Refusal>) -> io::Result<()> {
     match answer {
-        SymbolAnswer::Symbol(value) => println!(rt; "{value}"),
-        SymbolAnswer::Refused(refused) => refusal(rt, refused),
+        Ok(value) => println!(rt; "{value}"),
+        Err(refused) => println!(rt; "{refused}"),
     }
 }
 
@@ -22,29 +16,33 @@ pub fn operation(
     a: u32,
     sign: &str,
     b: u32,
-    answer: SymbolAnswer,
+    answer: Result<u32, Refusal>,
 ) -> io::Result<()> {
     print!(rt; "{a} {sign} {b} = ")?;
     symbol(rt, answer)
 }
 
-pub fn root(rt: &impl Print, level: usize, root: u32, square: SymbolAnswer) -> io::Result<()> {
+pub fn root(
+    rt: &impl Print,
+    level: usize,
+    root: u32,
+    square: Result<u32, Refusal>,
+) -> io::Result<()> {
     print!(rt; "root {level} = {root}, its square = ")?;
     symbol(rt, square)
 }
 
-pub fn inverse(rt: &impl Print, x: u32, answer: SymbolAnswer) -> io::Result<()> {
+pub fn inverse(rt: &impl Print, x: u32, answer: Result<u32, Refusal>) -> io::Result<()> {
     print!(rt; "inverse of {x} = ")?;
     symbol(rt, answer)
 }
 
-pub fn point(rt: &impl Print, n: usize, i: usize, answer: PointAnswer) -> io::Result<()> {
+pub fn point(
+    rt: &impl Print,
+    n: usize,
+    i: usize,
+    answer: Result<Point, Refusal>,
+) -> io::Result<()> {
     print!(rt; "n {n}, point of position {i} = ")?;
-    match answer {
-        PointAnswer::Point(point) => {
-            let value = point.0;
-            println!(rt; "{value}")
-        }
-        PointAnswer::Refused(refused) => refusal(rt, refused),
-    }
+    symbol(rt, answer.map(|point| point.0))
 }

@@ -2,19 +2,16 @@
 -- Assumes nothing.
 use native.Mathlib.Omega.{arith}
 use Rattle.bundle_layout.proofs.Holding.{limits}
-use Rattle.bundle_file.proofs.Counting.{n_fits, tally_asked, counted_more}
+use Rattle.bundle_file.proofs.Counting.{tally_asked, counted_more}
 use Rattle.bundle_first_pass.proofs.pass_block.Goals as goal
-
-pub code_front-requires : goal.code_front-requires
-code_front-requires c = (c.requires.0, c.requires.1, c.requires.3)
-
-pub store_if_none-requires : goal.store_if_none-requires
-store_if_none-requires c = record { begun = (c.requires.0, c.requires.1, c.requires.2, c.code_front.ensures.counted); coded = c.code_front.ensures.coded }
 
 pub tally-requires : goal.tally-requires
 tally-requires c =
-    tally_asked c.args.n _ c.code_front.new.cells c.size-size.ensures (n_fits _ c.args.n _ c.requires.0) c.args.k c.args.file.now c.args.b c.code_front.ensures.counted
-    (omega (arith, (limits _ _ _ c.requires.0).blocks))
+    let s = c.args.source in
+    tally_asked s.n _ c.code_front.new.cells c.size.ensures s.k s.file.now c.args.b c.code_front.ensures.counted
+    (omega (arith, c.requires.0, (limits _ _ _ s.shaped).blocks))
 
-pub returns : goal.returns
-returns c = record { plainly = c.store_if_none.ensures.plainly; plain = c.store_if_none.ensures.plain; counted = counted_more c.args.n _ c.code_front.new.cells c.size-size.ensures (n_fits _ c.args.n _ c.requires.0) c.args.k c.args.file.now c.args.b c.code_front.ensures.counted c.tally.new.cells c.code_front.ensures.coded c.tally.auto.cells c.tally.ensures }
+pub returns-clause-counted : goal.returns-clause-counted
+returns-clause-counted c =
+    let s = c.args.source in
+    counted_more s.n _ c.code_front.new.cells c.size.ensures s.k s.file.now c.args.b c.code_front.ensures.counted c.tally.new.cells c.code_front.ensures.coded c.tally.auto.cells c.tally.ensures

@@ -9,13 +9,11 @@ use Rattle.bundle_front.proofs.write_front.Goals as goal
 pub write_header-requires : goal.write_header-requires
 unfolding first_body header_size entry_size
 write_header-requires c =
-    let told = limits _ _ _ c.requires.0 in
-    (omega arith, omega arith, omega arith, omega (arith, c.requires.1, front_inside c.args.k c.args.n c.args.file.now c.requires.0))
-
-pub write_table-requires : goal.write_table-requires
-unfolding first_body header_size entry_size
-write_table-requires c = (c.requires.0, omega (arith, c.write_header.auto.out, c.requires.1), c.requires.2)
+    let told = limits _ _ _ c.args.source.shaped in
+    (omega arith, omega arith, omega arith, omega (arith, c.requires.0, front_inside c.args.source.k c.args.source.n c.args.source.file.now c.args.source.shaped))
 
 pub returns : goal.returns
-unfolding first_body header_size entry_size
-returns c = let more = front_stands c.args.k c.args.n c.args.file.now c.requires.0 c.args.out.now c.requires.1 c.write_header.new.out _ c.write_header.ensures c.write_table.ensures.onward c.write_table.ensures.stand in record { value = c.write_table.ensures.value; onward = more.0; stand = more.1 }
+returns c =
+    let s = c.args.source in
+    let more = front_stands s.k s.n s.file.now s.shaped c.args.out.now c.requires.0 c.write_header.new.out _ c.write_header.ensures c.write_table.ensures.onward c.write_table.ensures.stand in
+    record { value = c.write_table.ensures.value; onward = more.0; stand = more.1 }

@@ -1,21 +1,16 @@
--- `cells::clear` meets its contract: the cells passed are 0, the rest as they were.
+-- `cells::clear` meets its contract: the cells passed are zero, the rest as they were.
 -- Assumes nothing.
-use mathlib.Core.Path.{ap, ◌∙◌}
-use mathlib.Core.List.{List}
-use Prim.Native.Nat.{ℕ}
-use borrow.Author.Fill.{fill_none, fill_more}
-use borrow.Author.Rules.{rules}
+use mathlib.Core.Path.{ap₂, ◌∙◌}
 use lib.ListN.{set}
-use Rattle.cells.proofs.Filled.{filled_whole}
+use Rattle.cells.proofs.Filled.{fill_more, filled_whole}
 use Rattle.cells.proofs.clear.Goals as goal
 
-pub loop-at-init : goal.loop-at-init
-loop-at-init c = (search rules, search rules, fill_none _ 0)
-
-pub loop-at-preserved : goal.loop-at-preserved
-loop-at-preserved c =
-    let l = c.loop-at in
-    (search rules, search rules, ap (λ (s : List ℕ). set s l.at 0) l.invariant.2 ∙ fill_more l.at 0 _ (search rules))
+pub loop-cell-preserved : goal.loop-cell-preserved
+loop-cell-preserved g c =
+    let l = c.loop-cell in
+    ap₂ (λ s v. set s l.cell-index v) l.invariant c.zero.ensures ∙ fill_more g.T.Cell.zero l.cell-index c.args.cells.now c.loop-cell-test.true
 
 pub returns : goal.returns
-returns c = let l = c.loop-at in l.invariant.2 ∙ filled_whole l.at _ l.invariant.0 (search rules)
+returns g c =
+    let l = c.loop-cell in
+    l.invariant ∙ filled_whole g.T.Cell.zero l.cell-index c.args.cells.now l.auto.cell-index-end c.loop-cell-test.false

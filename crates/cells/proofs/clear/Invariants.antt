@@ -1,12 +1,8 @@
--- What the loop of `cells::clear` keeps true, and what falls with each turn.
+-- What the loop of `cells::clear` keeps true.
 use mathlib.Core.Path.{◌≡◌}
 use mathlib.Core.List.{◌++◌}
-use Prim.Native.Nat.{◌-◌, ◌≤◌}
-use lib.ListN.{length, drop, replicate}
+use lib.ListN.{drop, replicate}
 use Rattle.cells.proofs.clear.Given as goal
 
-abbrev pub invariant-loop-at : goal.invariant-loop-at
-invariant-loop-at l = (l.at ≤ length l.initial.cells) × (length l.cells ≡ length l.initial.cells) × (l.cells ≡ replicate l.at 0 ++ drop l.at l.initial.cells)
-
-abbrev pub decreases-loop-at : goal.decreases-loop-at
-decreases-loop-at l = length l.initial.cells - l.at
+abbrev pub invariant-loop-cell : goal.invariant-loop-cell
+invariant-loop-cell g l = l.cells ≡ replicate l.cell-index g.T.Cell.zero ++ drop l.cell-index l.initial.cells

@@ -1,92 +1,56 @@
--- `decode_between::fold` meets its contract: at the loop's head i entries stand in the room, and the coefficients are as they were.
+-- `decode_between::fold` meets its contract: at the loop's head i entries stand in the room.
 -- Assumes nothing.
-use mathlib.Core.Path.{◌≡◌, refl, sym, ap, ◌∙◌}
-use mathlib.Core.List.{List, ◌++◌}
-use Prim.Native.Nat.{ℕ, ◌+◌, ◌*◌, ◌/◌, ◌%◌, ◌<◌, ◌≤◌}
+use mathlib.Core.Path.{◌≡◌, sym, ap, ap₂, ◌∙◌}
+use mathlib.Core.List.{List}
+use Prim.Native.Nat.{ℕ, ◌-◌, ◌*◌, ◌≤◌}
+use native.Mathlib.Nat.{zero-add}
 use native.Mathlib.Omega.{arith}
-use lib.ListN.{length, get_or, take, drop, set}
-use lib.Seq.{get_or-take}
-use Rattle.field.specs.Field.{power}
-use Rattle.field.specs.Symbol.{IsSymbol}
-use Rattle.poly.specs.Sum.{total}
+use lib.ListN.{length, take, drop, length-take}
+use lib.Seq.{take-take}
+use Rattle.lists.specs.Part.{replaced}
 use Rattle.lists.specs.Tab.{tab}
-use Rattle.poly.proofs.Sum.{total_ext}
-use Rattle.lists.proofs.Tab.{tab_ext}
-use Rattle.lists.proofs.Window.{window, window_none, window_store, window_before, window_length, window_lead, window_rest}
-use Rattle.decode_between.specs.Between.{psi, folded}
-use Rattle.decode_between.specs.Foldable.{Foldable}
-use Rattle.decode_between.proofs.Foldable.{N_small, inside, room_kept}
-use Rattle.decode_between.proofs.fold.Invariants.{Turn, column}
+use Rattle.lists.proofs.Part.{middle_returned}
+use Rattle.lists.proofs.Window.{window_none, window_store, window_done}
+use Rattle.decode_between.specs.Between.{folded, folded_at}
+use Rattle.decode_between.specs.Foldable.{Columns, Foldable}
+use Rattle.decode_between.proofs.Foldable.{lent_columns}
 use Rattle.decode_between.proofs.fold.Goals as goal
 
-module _ (N K : ℕ) (d : List ℕ) (room : Foldable N K d) where
-  begun : Turn N K d d 0
-  begun = record { some = omega arith; is = window_none N (column N K d) d }
+module _ (N K : ℕ) (d front f powers : List ℕ) (room : Foldable N K d) (front_is : front ≡ take (3 * N) d) (f_is : f ≡ take N front) (powers_is : powers ≡ drop (3 * N) d) where
+  coefficients : f ≡ take N d
+  coefficients = f_is ∙ ap (take N) front_is ∙ take-take N (3 * N) d (omega arith)
 
-  module _ (cells : List ℕ) (i : ℕ) (t : Turn N K d cells i) where
-    long : length cells ≡ length d
-    long = ap length t.is ∙ window_length N i (column N K d) d (omega (arith, t.some, room.K_fits, room.table.long))
+  lent : Columns K f powers × (length f ≡ N)
+  lent = lent_columns N K d room f powers coefficients powers_is
 
-    kept : Foldable N K cells
-    kept =
-        room_kept N K d room cells long
-        (ap (take N) t.is ∙ window_lead N i (column N K d) d (omega (arith, room.table.long)))
-        (ap (drop (3 * N)) t.is ∙ window_rest N i (3 * N) (column N K d) d (omega (arith, room.table.long)) (omega (arith, t.some, room.K_fits)))
-
-    more : (v : ℕ) → i < K → IsSymbol v (column N K cells i) → Turn N K d (set cells (N + i) v) (i + 1)
-    unfolding column
-    more v l new =
-        record {
-          some = omega arith;
-          is = window_store N i (N + i) (column N K d) d cells v refl (omega (arith, room.table.long, room.K_fits)) t.is (new.is ∙ same);
-        }
-      where
-        same : total (N / K) (λ b. get_or cells (b * K + i) 0 * power (psi N) (b * K + i)) % 65537
-            ≡ total (N / K) (λ b. get_or d (b * K + i) 0 * power (psi N) (b * K + i)) % 65537
-        same =
-            ap (◌% 65537)
-            (total_ext (N / K) _ _ (λ b lb.
-            ap (◌* power (psi N) (b * K + i))
-            (ap (λ (s : List ℕ). get_or s (b * K + i) 0) t.is
-            ∙ window_before N i (b * K + i) (column N K d) d (inside N K d room b i lb l) (omega (arith, room.table.long)))))
-
-    all : K ≤ i → cells ≡ take N d ++ (folded N K (take N d) ++ drop (N + K) d)
-    unfolding column folded window
-    all h =
-        t.is
-        ∙ ap (λ (m : ℕ). take N d ++ (tab m (column N K d) ++ drop (N + m) d)) {x = i} {y = K} (omega (arith, t.some))
-        ∙ ap (λ (s : List ℕ). take N d ++ (s ++ drop (N + K) d))
-        (tab_ext K _ _ (λ j lj. ap (◌% 65537) (total_ext (N / K) _ _ (λ b lb.
-        ap (◌* power (psi N) (b * K + j)) (sym (get_or-take N d (b * K + j) 0 (inside N K d room b j lb lj)))))))
+  -- what is written is the fold
+  all : tab K (folded_at (length f) K f) ≡ folded N K (take N d)
+  unfolding folded
+  all = ap₂ (λ (n : ℕ) (s : List ℕ). tab K (folded_at n K s)) lent.1 coefficients
 
 pub loop-i-init : goal.loop-i-init
-unfolding column
-loop-i-init c = begun _ _ _ c.requires
+loop-i-init c = window_none 0 _ _
 
 pub fold_one-requires : goal.fold_one-requires
-unfolding column
-fold_one-requires c = (kept _ _ _ c.requires c.loop-i.cells c.loop-i.i c.loop-i.invariant, c.loop-i-test.true)
-
-pub overflow_add-cells : goal.overflow_add-cells
-unfolding column
-overflow_add-cells c = omega (arith, N_small _ _ c.requires.table, c.requires.K_fits, c.loop-i-test.true)
-
-pub offset_bounds-cells-size : goal.offset_bounds-cells-size
-unfolding column
-offset_bounds-cells-size c = omega (arith, N_small _ _ c.requires.table, c.requires.K_fits, c.loop-i-test.true)
-
-pub bounds-cells-size : goal.bounds-cells-size
-unfolding column
-bounds-cells-size c = omega (arith, long _ _ _ c.requires c.loop-i.cells c.loop-i.i c.loop-i.invariant, c.requires.table.long, c.requires.K_fits, c.loop-i-test.true)
+fold_one-requires c = (
+  (lent _ _ c.args.cells.now _ _ _ c.requires c.split_at_mut-front.ensures.front c.split_at_mut-coefficients.ensures.front c.split_at_mut-front.ensures.back).0,
+  omega (arith, c.loop-i-test.true, length-take (c.args.step - 0) c.split_at_mut-coefficients.result.1.now),
+)
 
 pub loop-i-preserved : goal.loop-i-preserved
-unfolding column
-loop-i-preserved c = more _ _ _ c.requires c.loop-i.cells c.loop-i.i c.loop-i.invariant _ c.loop-i-test.true c.fold_one.ensures
-
-pub shape_of-cells : goal.shape_of-cells
-unfolding column
-shape_of-cells c = long _ _ _ c.requires c.loop-i.cells c.loop-i.i c.loop-i.invariant
+loop-i-preserved c =
+    let l = c.loop-i in
+    window_store 0 l.i l.i _ _ l.value-items _ (sym (zero-add l.i)) (omega arith) l.invariant c.fold_one.ensures.is
 
 pub returns : goal.returns
-unfolding column
-returns c = all _ _ _ c.requires c.loop-i.cells c.loop-i.i c.loop-i.invariant c.loop-i-test.false
+returns c =
+    let l = c.loop-i in
+    let d = c.args.cells.now in
+    let room = c.split_at_mut-coefficients.result.1.now in
+    let enough : c.args.step ≤ length room = omega (arith, c.split_at_mut-coefficients.ensures.back_len, c.split_at_mut-front.ensures.front_len, c.requires.K_fits) in
+    middle_returned c.args.size c.args.step d _ _ _ room c.split_at_mut-front.ensures.value c.split_at_mut-coefficients.ensures.value
+    c.split_at_mut-coefficients.ensures.front_len enough _ _ (omega arith)
+    ∙ ap (replaced c.args.size c.args.step d)
+    (window_done c.args.step l.i _ _ _ (length-take (c.args.step - 0) room ∙ omega arith) (omega (arith, l.auto.i-end, length-take (c.args.step - 0) room))
+    (omega (arith, c.loop-i-test.false, length-take (c.args.step - 0) room)) l.invariant
+    ∙ all _ _ d _ _ _ c.requires c.split_at_mut-front.ensures.front c.split_at_mut-coefficients.ensures.front c.split_at_mut-front.ensures.back)

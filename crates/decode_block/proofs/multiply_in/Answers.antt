@@ -1,21 +1,20 @@
--- `decode_block::multiply_in` meets its contract: at the loop's head the numbers at the first t positions are multiplied.
+-- `decode_block::multiply_in` meets its contract: at the loop's head the numbers at the positions passed are multiplied.
 -- Assumes nothing.
-use mathlib.Core.Path.{◌≡◌, refl, sym, ap, ◌∙◌}
+use mathlib.Core.Path.{◌≡◌, sym, ap, ◌∙◌}
 use mathlib.Core.List.{List}
-use Prim.Native.Nat.{ℕ, ◌+◌, ◌<◌, ◌≤◌}
+use Prim.Native.Nat.{ℕ, ◌+◌, ◌<◌}
 use native.Mathlib.Decide.{ℕ_discrete}
 use native.Mathlib.Omega.{arith}
 use borrow.Author.Rules.{rules}
 use lib.ListN.{length, get_or, set, length-set}
+use Rattle.std.proofs.lemmas.List.{length_push}
+use Rattle.std.proofs.lemmas.Slice.Zip.{zip_turn}
 use lib.Seq.{get_or-set_same, get_or-set_other}
 use Rattle.field.specs.Field.{product}
 use Rattle.code.specs.Positions.{Inside}
 use Rattle.code.specs.Repeats.{Apart}
 use Rattle.decode_block.specs.Multiplied.{Multiplied}
 use Rattle.decode_block.proofs.multiply_in.Goals as goal
-
-begun : (positions values list : List ℕ) → Multiplied 0 positions values list list
-begun positions values list = record { long = refl; at = λ t l. absurd (omega arith); other = λ j free. refl }
 
 module _ (positions values d list : List ℕ) (t : ℕ) (apart : Apart positions) (inside : Inside (length d) positions) (m : Multiplied t positions values d list) where
   more : (p v : ℕ) → t < length positions → p ≡ get_or positions t 0 → v ≡ product (get_or values t 0) (get_or list p 0) → Multiplied (t + 1) positions values d (set list p v)
@@ -38,32 +37,10 @@ module _ (positions values d list : List ℕ) (t : ℕ) (apart : Apart positions
       at i k (no before) =
           get_or-set_other list p (get_or positions i 0) v 0 (λ same. apart i t (omega arith) l (same ∙ is)) ∙ m.at i (omega arith)
 
-  all : t ≤ length positions → length positions ≤ t → Multiplied (length positions) positions values d list
-  all h k = rw (sym end) m
-    where
-      end : t ≡ length positions
-      end = omega arith
-
-pub loop-t-init : goal.loop-t-init
-loop-t-init c = (search rules, begun _ _ _)
-
-pub offset_bounds-list-at : goal.offset_bounds-list-at
-offset_bounds-list-at c = omega (arith, c.requires.1 c.loop-t.t c.loop-t-test.true, c.wide-at.ensures, c.loop-t.invariant.1.long)
-
-pub bounds-list-at : goal.bounds-list-at
-bounds-list-at c = omega (arith, c.requires.1 c.loop-t.t c.loop-t-test.true, c.wide-at.ensures, c.loop-t.invariant.1.long)
-
-pub offset_bounds-list-at-in-loop-t : goal.offset_bounds-list-at-in-loop-t
-offset_bounds-list-at-in-loop-t c = omega (arith, c.requires.1 c.loop-t.t c.loop-t-test.true, c.wide-at.ensures, c.loop-t.invariant.1.long)
-
-pub bounds-list-at-in-loop-t : goal.bounds-list-at-in-loop-t
-bounds-list-at-in-loop-t c = omega (arith, c.requires.1 c.loop-t.t c.loop-t-test.true, c.wide-at.ensures, c.loop-t.invariant.1.long)
-
-pub loop-t-preserved : goal.loop-t-preserved
-loop-t-preserved c = (search rules, more _ _ _ c.loop-t.list c.loop-t.t c.requires.2 c.requires.1 c.loop-t.invariant.1 _ _ c.loop-t-test.true c.wide-at.ensures c.product.ensures.is)
-
-pub shape_of-list : goal.shape_of-list
-shape_of-list c = c.loop-t.invariant.1.long
-
-pub returns : goal.returns
-returns c = all _ _ _ c.loop-t.list c.loop-t.t c.requires.2 c.requires.1 c.loop-t.invariant.1 c.loop-t.invariant.0 c.loop-t-test.false
+pub loop-position-preserved : goal.loop-position-preserved
+loop-position-preserved c =
+    let l = c.loop-position in
+    let turn = zip_turn c.args.positions.now c.args.values.now l.yielded c.into_iter-position-iterator.result l.position-iterator c.next.new.self _ (search rules) (search rules) l.yielded_by (c.in-Some.position, c.in-Some.value) c.in-Some.is c.next.ensures.steps in
+    rw (length_push l.yielded (c.in-Some.position, c.in-Some.value))
+    (more _ _ _ l.list (length l.yielded) c.requires.2 c.requires.1 l.invariant _ _ turn.0 (turn.2 0)
+    (c.product.ensures.is ∙ ap (λ (x : ℕ). product x (get_or l.list c.in-Some.position.now 0)) (turn.3 0)))

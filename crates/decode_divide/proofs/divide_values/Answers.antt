@@ -1,47 +1,52 @@
--- `decode_divide::divide_values` meets its contract: at the loop's head i values are divided, and the inverses stay.
+-- `decode_divide::divide_values` meets its contract: at the loop's head i values are divided.
 -- Assumes nothing.
-use mathlib.Core.Path.{◌≡◌, refl, ap, ap₂, ◌∙◌}
+use mathlib.Core.Path.{◌≡◌, sym, ap, ap₂, ◌∙◌}
 use mathlib.Core.List.{List, ◌++◌}
-use Prim.Native.Nat.{ℕ, ◌+◌, ◌*◌, ◌<◌, ◌≤◌}
+use Prim.Native.Nat.{ℕ, ◌+◌, ◌-◌, ◌*◌, ◌≤◌}
+use native.Mathlib.Nat.{zero-add}
 use native.Mathlib.Omega.{arith}
-use borrow.Author.Rules.{rules}
-use lib.ListN.{length, get_or, take, drop, set}
+use lib.ListN.{length, get_or, take, drop, length-drop, take-append-drop}
+use lib.Seq.{length-take-le, get_or-drop}
 use Rattle.field.specs.Field.{product}
+use Rattle.lists.specs.Part.{replaced}
 use Rattle.lists.specs.Tab.{tab}
-use Rattle.lists.proofs.Window.{window, window_none, window_store, window_past, window_length}
-use Rattle.decode_divide.proofs.divide_values.Invariants.{Turn, quotient_at}
+use Rattle.lists.proofs.Part.{lent_at, lent_at_length, middle_returned}
+use Rattle.lists.proofs.Tab.{tab_ext}
+use Rattle.lists.proofs.Window.{window_none, window_store, window_past, window_done}
 use Rattle.decode_divide.proofs.divide_values.Goals as goal
 
-module _ (N K : ℕ) (d : List ℕ) (pre : (length d ≡ 4 * N) × (K ≤ N)) where
-  module _ (cells : List ℕ) (i : ℕ) (t : Turn N K d cells i) where
-    -- what is still to be read
-    ahead : (j : ℕ) → N + i ≤ j → get_or cells j 0 ≡ get_or d j 0
-    ahead j l = ap (λ (s : List ℕ). get_or s j 0) t.is ∙ window_past N i j (quotient_at N d) d l (omega (arith, pre.0))
-
-    more : (v : ℕ) → i < K → v ≡ product (get_or cells (N + i) 0) (get_or cells (2 * N + i) 0) → Turn N K d (set cells (N + i) v) (i + 1)
-    more v l new = record { some = omega arith; long = ap length is ∙ window_length N (i + 1) (quotient_at N d) d (omega (arith, pre.0, pre.1)); is = is }
-      where
-        is : set cells (N + i) v ≡ window N (i + 1) (quotient_at N d) d
-        is =
-            window_store N i (N + i) (quotient_at N d) d cells v refl (omega (arith, pre.0, pre.1)) t.is
-            (new ∙ (unfold quotient_at in ap₂ product (ahead (N + i) (omega arith)) (ahead (2 * N + i) (omega (arith, pre.1)))))
-
-    all : K ≤ i → cells ≡ take N d ++ (tab K (quotient_at N d) ++ drop (N + K) d)
-    unfolding window
-    all h = t.is ∙ ap (λ (m : ℕ). take N d ++ (tab m (quotient_at N d) ++ drop (N + m) d)) {x = i} {y = K} (omega (arith, t.some))
-
 pub loop-i-init : goal.loop-i-init
-unfolding quotient_at
-loop-i-init c = record { some = search rules; long = search rules; is = window_none _ _ _ }
+loop-i-init c = window_none 0 _ _
 
+-- what is divided is not written yet
 pub loop-i-preserved : goal.loop-i-preserved
-unfolding quotient_at
-loop-i-preserved c = more _ _ _ c.requires c.loop-i.cells c.loop-i.i c.loop-i.invariant _ c.loop-i-test.true c.product.ensures.is
+loop-i-preserved c =
+    let l = c.loop-i in
+    window_store 0 l.i l.i _ _ l.value-items _ (sym (zero-add l.i)) (omega arith) l.invariant
+    (c.product.ensures.is
+    ∙ ap (λ (x : ℕ). product x (get_or c.split_at_mut-front.result.1.now l.i 0))
+    (ap (λ (s : List ℕ). get_or s l.i 0) l.invariant ∙ window_past 0 l.i l.i _ _ (omega arith) (omega arith)))
 
-pub shape_of-cells : goal.shape_of-cells
-unfolding quotient_at
-shape_of-cells c = c.loop-i.invariant.long
+module _ (N K : ℕ) (d front inverses : List ℕ) (fits : K ≤ N) (value : d ≡ front ++ inverses) (long : length front ≡ 2 * N) (back : inverses ≡ drop (2 * N) d) where
+  all : tab K (λ j. product (get_or (take (N + K - N) (drop N front)) j 0) (get_or inverses j 0)) ≡ tab K (λ i. product (get_or d (N + i) 0) (get_or d (2 * N + i) 0))
+  all =
+      tab_ext K _ _ (λ i l.
+      ap₂ product
+      (lent_at N K i d front inverses value (omega (arith, long, fits)) l)
+      (ap (λ (s : List ℕ). get_or s i 0) back ∙ get_or-drop (2 * N) d i 0))
+
+  returned : (new : List ℕ) → (take N front ++ (new ++ drop (N + K - N) (drop N front))) ++ inverses ≡ replaced N K d new
+  returned new =
+      middle_returned N K d front inverses (take N front) (drop N front) value (sym (take-append-drop N front))
+      (length-take-le N front (omega (arith, long))) (omega (arith, length-drop N front, long, fits)) (N + K - N) new (omega arith)
 
 pub returns : goal.returns
-unfolding quotient_at
-returns c = all _ _ _ c.requires c.loop-i.cells c.loop-i.i c.loop-i.invariant c.loop-i-test.false
+returns c =
+    let l = c.loop-i in
+    let split = c.split_at_mut-front in
+    let d = c.args.cells.now in
+    let long = lent_at_length c.args.size c.args.step split.result.0.now (omega (arith, split.ensures.front_len, c.requires.1)) in
+    returned c.args.size c.args.step d _ _ c.requires.1 split.ensures.value split.ensures.front_len split.ensures.back l.value-items
+    ∙ ap (replaced c.args.size c.args.step d)
+    (window_done c.args.step l.i _ _ _ long (omega (arith, long, l.auto.i-end)) (omega (arith, long, c.loop-i-test.false)) l.invariant
+    ∙ all c.args.size c.args.step d _ _ c.requires.1 split.ensures.value split.ensures.front_len split.ensures.back)

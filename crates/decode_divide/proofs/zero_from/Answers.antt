@@ -1,30 +1,34 @@
--- `decode_divide::zero_from` meets its contract: what is passed is 0.
+-- `decode_divide::zero_from` meets its contract: what stands from the index on, or from the end, is 0 throughout.
 -- Assumes nothing.
-use mathlib.Core.Path.{◌≡◌, ap, ◌∙◌}
-use mathlib.Core.List.{List}
-use mathlib.Core.Logic.{inl, inr}
-use Prim.Native.Nat.{ℕ, ◌+◌, ◌≤◌}
-use native.Mathlib.Nat.{eq-or-lt_of_le}
-use native.Mathlib.Omega.{arith}
-use borrow.Author.Rules.{rules}
-use lib.ListN.{get_or}
-use Rattle.decode_divide.proofs.zero_from.Invariants.{Turn}
+use Rattle.std.proofs.Common.{rules, arith, ◌≡◌, ◌↔◌, ℕ, ◌+◌, ◌-◌, Bool, true, false, List, length, take, drop, get_or, min, IsTrue, EachIndex, refl, sym, ap, ◌∙◌, length-drop}
+use Rattle.std.proofs.Math.Seq.{take_all, get_or-drop}
+use Rattle.decode_divide.specs.Tests.{Decides, ZeroFrom}
 use Rattle.decode_divide.proofs.zero_from.Goals as goal
 
-more : (list : List ℕ) (from i : ℕ) → Turn list from i → get_or list i 0 ≡ 0 → Turn list from (i + 1)
-more list from i t here = record { begun = omega (arith, t.begun); none = λ j l less. at j l (omega arith) }
-  where
-    at : (j : ℕ) → from ≤ j → j ≤ i → get_or list j 0 ≡ 0
-    at j l le = elim (eq-or-lt_of_le le) [ inl is ↦ ap (λ (x : ℕ). get_or list x 0) is ∙ here | inr earlier ↦ t.none j l earlier ]
+decided : (r : Bool) (P Q : Type 0) → IsTrue r ↔ P → (P → Q) → (Q → P) → Decides r Q
+decided true P Q iff there back = there (iff.0 refl)
+decided false P Q iff there back = λ q. let no : false ≡ true = iff.1 (back q) in cc
 
-pub loop-i-init : goal.loop-i-init
-loop-i-init c = record { begun = search rules; none = λ j l less. absurd (omega arith) }
+module _ (from begin : ℕ) (list : List ℕ) (least : begin ≡ min from (length list)) where
+  rest : List ℕ
+  rest = take (length list - begin) (drop begin list)
 
-pub returns-then-list-i-ne0 : goal.returns-then-list-i-ne0
-returns-then-list-i-ne0 c = λ all. c.if-list-i-ne0.true (all c.loop-i.i c.loop-i.invariant.begun c.loop-i-test.true)
+  rest_is : rest ≡ drop begin list
+  unfolding rest
+  rest_is = take_all (length list - begin) (drop begin list) (omega (arith, length-drop begin list))
 
-pub loop-i-preserved : goal.loop-i-preserved
-loop-i-preserved c = more _ _ c.loop-i.i c.loop-i.invariant (omega (arith, c.if-list-i-ne0.false))
+  entry : (k : ℕ) → get_or rest k 0 ≡ get_or list (begin + k) 0
+  entry k = ap (λ (s : List ℕ). get_or s k 0) rest_is ∙ get_or-drop begin list k 0
+
+  tested : (r : Bool) → IsTrue r ↔ EachIndex (take (length list - begin) (drop begin list)) (λ k. get_or (take (length list - begin) (drop begin list)) k 0 ≡ 0)
+      → Decides r (ZeroFrom from list)
+  unfolding rest
+  tested r iff =
+      decided r _ (ZeroFrom from list) iff
+      (λ each i l less.
+      ap (λ (n : ℕ). get_or list n 0) {x = i} {y = begin + (i - begin)} (omega (arith, least)) ∙ sym (entry (i - begin))
+      ∙ each (i - begin) (omega (arith, ap length rest_is, length-drop begin list, least)))
+      (λ all k less. entry k ∙ all (begin + k) (omega (arith, ap length rest_is, length-drop begin list, least)) (omega (arith, ap length rest_is, length-drop begin list)))
 
 pub returns : goal.returns
-returns c = λ i l less. c.loop-i.invariant.none i l (omega (arith, c.loop-i-test.false))
+returns c = tested c.args.from c.min-begin.result c.args.list.now (search rules) c.all.result (search rules)

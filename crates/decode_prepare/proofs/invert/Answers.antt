@@ -1,41 +1,50 @@
--- `decode_prepare::invert` meets its contract: the values stay, and i inverses stand behind them.
+-- `decode_prepare::invert` meets its contract: at the loop's head i inverses stand behind the values.
 -- Assumes nothing.
-use mathlib.Core.Path.{◌≡◌, refl, ap, ap₂, ◌∙◌}
+use mathlib.Core.Path.{◌≡◌, sym, ap, ap₂, ◌∙◌}
 use mathlib.Core.List.{List, ◌++◌}
-use Prim.Native.Nat.{ℕ, ◌+◌, ◌*◌, ◌<◌, ◌≤◌}
+use Prim.Native.Nat.{ℕ, ◌+◌, ◌-◌, ◌*◌, ◌≤◌}
+use native.Mathlib.Nat.{zero-add}
 use native.Mathlib.Omega.{arith}
-use borrow.Author.Rules.{rules}
-use lib.ListN.{length, get_or, take, drop, set}
+use lib.ListN.{length, get_or, take, drop}
+use lib.Seq.{drop-drop}
 use Rattle.field.specs.Field.{product, inverse}
+use Rattle.lists.specs.Part.{replaced}
 use Rattle.lists.specs.Tab.{tab}
-use Rattle.lists.proofs.Window.{window, window_none, window_store, window_before, window_length}
-use Rattle.decode_prepare.proofs.invert.Invariants.{Turn, inverse_at}
+use Rattle.lists.proofs.Part.{lent_at, lent_at_length}
+use Rattle.lists.proofs.Tab.{tab_ext}
+use Rattle.lists.proofs.Window.{window, window_none, window_store}
+use Rattle.decode_prepare.specs.Inverted.{inverses_of}
 use Rattle.decode_prepare.proofs.invert.Goals as goal
 
-module _ (N K : ℕ) (d : List ℕ) (pre : (length d ≡ 4 * N) × (K ≤ N) × (N ≤ 65536)) (cells : List ℕ) (i : ℕ) (t : Turn N K d cells i) where
-  more : (c p v : ℕ) → i < K → c ≡ product N K → p ≡ product c (get_or cells (N + i) 0) → v ≡ inverse p → Turn N K d (set cells (2 * N + i) v) (i + 1)
-  more c p v l factor multiplied new =
-      record { some = omega arith; long = ap length is ∙ window_length (2 * N) (i + 1) (inverse_at N K d) d (omega (arith, pre.0, pre.1)); is = is }
-    where
-      is : set cells (2 * N + i) v ≡ window (2 * N) (i + 1) (inverse_at N K d) d
-      is =
-          window_store (2 * N) i (2 * N + i) (inverse_at N K d) d cells v refl (omega (arith, pre.0, pre.1)) t.is
-          (new ∙ ap inverse (multiplied ∙ ap₂ product factor
-          (ap (λ (s : List ℕ). get_or s (N + i) 0) t.is
-          ∙ window_before (2 * N) i (N + i) (inverse_at N K d) d (omega (arith, pre.1)) (omega (arith, pre.0)))))
-
-  all : K ≤ i → cells ≡ take (2 * N) d ++ (tab K (inverse_at N K d) ++ drop (2 * N + K) d)
-  unfolding window
-  all h = t.is ∙ ap (λ (m : ℕ). take (2 * N) d ++ (tab m (inverse_at N K d) ++ drop (2 * N + m) d)) {x = i} {y = K} (omega (arith, t.some))
+-- what is written, behind the front
+returned : (N K i factor : ℕ) (d front inverses new : List ℕ) → length front ≡ 2 * N → K ≤ N → i ≡ K → factor ≡ product N K
+    → d ≡ front ++ inverses → front ≡ take (2 * N) d → inverses ≡ drop (2 * N) d
+    → new ≡ window 0 i (λ j. inverse (product factor (get_or (take (N + K - N) (drop N front)) j 0))) inverses
+    → front ++ new ≡ replaced (2 * N) K d (inverses_of N K (λ j. get_or d (N + j) 0))
+unfolding window
+returned N K i factor d front inverses new long fits all factored value front_is back_is is =
+    ap₂ ◌++◌ front_is
+    (is
+    ∙ ap₂ (λ (n m : ℕ). tab n (λ j. inverse (product factor (get_or (take (N + K - N) (drop N front)) j 0))) ++ drop m inverses) all drops
+    ∙ ap₂ ◌++◌
+    (tab_ext K _ _ (λ j l. ap inverse (ap₂ product factored (lent_at N K j d front inverses value (omega (arith, long, fits)) l))))
+    (ap (drop K) back_is ∙ drop-drop K (2 * N) d))
+  where
+    drops : 0 + i ≡ K
+    drops = omega (arith, all)
 
 pub loop-i-init : goal.loop-i-init
-loop-i-init c = record { some = search rules; long = search rules; is = window_none _ _ _ }
+loop-i-init c = window_none 0 _ _
 
 pub loop-i-preserved : goal.loop-i-preserved
-loop-i-preserved c = more _ _ _ c.requires c.loop-i.cells c.loop-i.i c.loop-i.invariant _ _ _ c.loop-i-test.true c.product-factor.ensures.is c.product.ensures.is c.inverse.ensures.is
-
-pub shape_of-cells : goal.shape_of-cells
-shape_of-cells c = c.loop-i.invariant.long
+loop-i-preserved c =
+    let l = c.loop-i in
+    window_store 0 l.i l.i _ _ l.inverses _ (sym (zero-add l.i)) (omega (arith, c.loop-i-test.true, lent_at_length c.args.size c.args.step c.split_at_mut-front.result.0.now (omega (arith, c.split_at_mut-front.ensures.front_len, c.requires.1)), c.split_at_mut-front.ensures.back_len, c.requires.0, c.requires.1)) l.invariant (c.inverse.ensures.is ∙ ap inverse c.product.ensures.is)
 
 pub returns : goal.returns
-returns c = all _ _ _ c.requires c.loop-i.cells c.loop-i.i c.loop-i.invariant c.loop-i-test.false
+returns c =
+    let l = c.loop-i in
+    let split = c.split_at_mut-front in
+    let long = lent_at_length c.args.size c.args.step split.result.0.now (omega (arith, split.ensures.front_len, c.requires.1)) in
+    returned c.args.size c.args.step l.i c.product-factor.result c.args.cells.now _ _ l.inverses split.ensures.front_len c.requires.1 (omega (arith, long, l.auto.i-end, c.loop-i-test.false)) c.product-factor.ensures.is
+    split.ensures.value split.ensures.front split.ensures.back l.invariant

@@ -1,24 +1,9 @@
--- What the loop of `decode_prepare::invert` keeps true, and what falls with each turn.
+-- What the loop of `decode_prepare::invert` keeps true.
 use mathlib.Core.Path.{◌≡◌}
-use mathlib.Core.List.{List}
-use Prim.Native.Nat.{ℕ, ◌+◌, ◌-◌, ◌*◌, ◌≤◌}
-use lib.ListN.{length, get_or}
+use lib.ListN.{get_or}
 use Rattle.field.specs.Field.{product, inverse}
 use Rattle.lists.proofs.Window.{window}
 use Rattle.decode_prepare.proofs.invert.Given as goal
 
--- an inverse
-abbrev pub inverse_at : ℕ → ℕ → List ℕ → ℕ → ℕ
-inverse_at N K d i = inverse (product (product N K) (get_or d (N + i) 0))
-
--- what is known inside the loop
-pub record Turn (N K : ℕ) (d cells : List ℕ) (i : ℕ) : Type 0 where
-  pub some : i ≤ K
-  pub long : length cells ≡ length d
-  pub is : cells ≡ window (2 * N) i (inverse_at N K d) d
-
 abbrev pub invariant-loop-i : goal.invariant-loop-i
-invariant-loop-i l = Turn l.size l.step l.initial.cells l.cells l.i
-
-abbrev pub decreases-loop-i : goal.decreases-loop-i
-decreases-loop-i l = l.step - l.i
+invariant-loop-i l = l.inverses ≡ window 0 l.i (λ j. inverse (product l.factor (get_or l.values j 0))) l.initial.inverses

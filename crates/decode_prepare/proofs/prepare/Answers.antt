@@ -1,6 +1,7 @@
 -- `decode_prepare::prepare` meets its contract, step by step.
 -- Assumes nothing.
 use native.Mathlib.Omega.{arith}
+use borrow.Author.Rules.{rules}
 use Rattle.decode_prepare.proofs.Finishing.{power_of_two, root_there, long_N, nothing_missing, product_asked, weigh_asked, something_missing}
 use Rattle.decode_prepare.proofs.prepare.Goals as goal
 
@@ -12,13 +13,10 @@ begin-missing-requires c =
       root_there _ _ _ p.0 p.1 p.2 _ _ c.size-size.ensures c.size-step.ensures,
     )
 
-pub slice_bounds-fill_ones-end : goal.slice_bounds-fill_ones-end
-slice_bounds-fill_ones-end c = let p = c.requires in omega (arith, c.begin-missing.auto.cells, p.1, c.size-size.ensures)
-
 pub returns-then-missing-eq0 : goal.returns-then-missing-eq0
 returns-then-missing-eq0 c =
     let p = c.requires in
-    nothing_missing _ _ _ p.0 p.1 p.2 _ _ c.size-size.ensures c.size-step.ensures _ _ c.begin-missing.auto.cells c.begin-missing.ensures.missing c.begin-missing.ensures.points c.begin-missing.ensures.powers c.if-missing-eq0.true _ c.fill_ones.ensures
+    nothing_missing _ _ _ p.0 p.1 p.2 _ _ c.size-size.ensures c.size-step.ensures _ _ c.begin-missing.auto.cells c.begin-missing.ensures.missing c.begin-missing.ensures.points c.begin-missing.ensures.powers c.if-missing-eq0.true _ (c.fill.ensures.after (search rules))
 
 pub lay_product-requires : goal.lay_product-requires
 lay_product-requires c =

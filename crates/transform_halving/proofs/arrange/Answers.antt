@@ -5,7 +5,6 @@ use mathlib.Core.List.{List}
 use mathlib.Core.Logic.{inl}
 use Prim.Native.Nat.{ℕ, ◌+◌, ◌^◌, ◌<◌}
 use native.Mathlib.Omega.{arith}
-use borrow.Author.Rules.{rules}
 use lib.ListN.{length}
 use Rattle.field.specs.Size.{level_of, size_of}
 use Rattle.transform_halving.specs.Order.{reversed, arranged, exchanged, IsNext}
@@ -22,56 +21,39 @@ paired d size =
       twice = λ x h. reversed_twice (level_of (length d)) x (omega (arith, size));
     }
 
-module _ (d : List ℕ) (size : length d ≡ 2 ^ level_of (length d)) (list : List ℕ) (i place : ℕ) (m : Met d list i place) (h : i < length list) where
-  below : (i < length list) × (place < length list)
-  below = (h, omega (arith, m.long, m.reverse, reversed_lt (level_of (length d)) i))
+module _ (d : List ℕ) (size : length d ≡ 2 ^ level_of (length d)) (list : List ℕ) (long : length list ≡ length d) (i place : ℕ) (m : Met d list i place) (h : i < length d) where
+  below : place < length list
+  below = omega (arith, m.reverse, reversed_lt (level_of (length d)) i)
 
   more : (last : List ℕ) (next : ℕ) → last ≡ exchanged list i place → length last ≡ length list → IsNext next place (length last)
       → Met d last (i + 1) next
   more last next change same after =
       record {
-        some = omega (arith, m.long);
-        long = same ∙ m.long;
-        reverse = after.next (level_of (length d)) i (same ∙ m.long ∙ size) m.reverse;
-        arranging =
-            rw (change, m.reverse)
-            (arranging_more (length d) _ (paired d size) d list i (omega (arith, m.long)) m.long m.arranging);
+        reverse = after.next (level_of (length d)) i (same ∙ long ∙ size) m.reverse;
+        arranging = rw (change, m.reverse) (arranging_more (length d) _ (paired d size) d list i h long m.arranging);
       }
 
 pub loop-i-init : goal.loop-i-init
-unfolding size_of arranged
-loop-i-init c = record { some = search rules; long = search rules; reverse = sym (reversed_zero _); arranging = arranging_none _ _ _ }
+loop-i-init c = record { reverse = sym (reversed_zero _); arranging = arranging_none _ _ _ }
 
 pub exchange-requires : goal.exchange-requires
-unfolding size_of arranged
+unfolding size_of
 exchange-requires c =
     let l = c.loop-i in
-    let inside = below _ c.requires l.list l.i l.place l.invariant c.loop-i-test.true in
+    let inside = below _ c.requires l.list l.auto.list l.i l.place l.invariant c.loop-i-test.true in
     (omega arith, omega arith)
 
-pub overflow_add-i : goal.overflow_add-i
-unfolding size_of arranged
-overflow_add-i c = omega (arith, c.loop-i.invariant.long)
-
-pub loop-i-smaller : goal.loop-i-smaller
-unfolding size_of arranged
-loop-i-smaller c = omega (arith, c.loop-i.invariant.long)
-
 pub loop-i-preserved : goal.loop-i-preserved
-unfolding size_of arranged
+unfolding size_of
 loop-i-preserved c =
     let l = c.loop-i in
-    more _ c.requires l.list l.i l.place l.invariant c.loop-i-test.true _ _
+    more _ c.requires l.list l.auto.list l.i l.place l.invariant c.loop-i-test.true _ _
     c.exchange.ensures
     c.exchange.auto.list
     c.next_place-place.ensures
 
-pub shape_of-list : goal.shape_of-list
-unfolding size_of arranged
-shape_of-list c = c.loop-i.invariant.long
-
 pub returns : goal.returns
-unfolding size_of arranged
+unfolding arranged
 returns c =
     let l = c.loop-i in
-    arranging_all _ _ l.list l.i l.invariant.long l.invariant.arranging (λ x h. inl (omega (arith, l.invariant.long)))
+    arranging_all _ _ l.list l.i l.auto.list l.invariant.arranging (λ x h. inl (omega arith))

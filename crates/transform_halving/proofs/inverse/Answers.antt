@@ -14,17 +14,9 @@ pub overflow_cast-list : goal.overflow_cast-list
 unfolding root_of
 overflow_cast-list c = omega (arith, transformable_short _ c.requires)
 
-pub arrange-requires : goal.arrange-requires
-unfolding root_of
-arrange-requires c = c.requires.size
-
 pub halve-requires : goal.halve-requires
 unfolding root_of
 halve-requires c = subst Transformable (sym c.arrange.ensures) (arranged_transformable _ c.requires)
-
-pub shape_of-list : goal.shape_of-list
-unfolding root_of
-shape_of-list c = c.scale.auto.list ∙ c.halve.auto.list ∙ c.arrange.auto.list
 
 pub returns : goal.returns
 unfolding root_of

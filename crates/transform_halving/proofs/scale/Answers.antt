@@ -10,19 +10,17 @@ use Rattle.lists.specs.Tab.{tab}
 use Rattle.lists.proofs.Window.{window_none, window_change, window_all}
 use Rattle.transform_halving.proofs.scale.Goals as goal
 
-pub loop-i-init : goal.loop-i-init
-loop-i-init c = (search rules, search rules, window_none 0 _ _)
+pub loop-number-init : goal.loop-number-init
+loop-number-init c = window_none 0 _ _
 
-pub loop-i-preserved : goal.loop-i-preserved
-loop-i-preserved c = (
-  search rules,
-  search rules,
-  window_change (product c.args.factor) c.loop-i.i c.args.list.now c.loop-i.list _ (search rules) c.loop-i.invariant.2 c.product.ensures.is,
-)
+pub loop-number-preserved : goal.loop-number-preserved
+loop-number-preserved c =
+    let l = c.loop-number in
+    window_change (product c.args.factor) l.number-index c.args.list.now l.list _ (search rules) l.invariant c.product.ensures.is
 
 pub returns : goal.returns
 returns c =
-    let l = c.loop-i in
-    l.invariant.2
-    ∙ window_all l.i _ c.args.list.now (search rules)
+    let l = c.loop-number in
+    l.invariant
+    ∙ window_all l.number-index _ c.args.list.now (search rules)
     ∙ ap (λ (n : ℕ). tab n (λ j. product c.args.factor (get_or c.args.list.now j 0))) (omega arith)

@@ -7,17 +7,9 @@ use Rattle.transform_halving.specs.Transformable.{Transformable}
 use Rattle.transform_halving.proofs.Steps.{arranged_transformable, transform_steps}
 use Rattle.transform_halving.proofs.transform.Goals as goal
 
-pub arrange-requires : goal.arrange-requires
-unfolding root_of
-arrange-requires c = c.requires.size
-
 pub halve-requires : goal.halve-requires
 unfolding root_of
 halve-requires c = subst Transformable (sym c.arrange.ensures) (arranged_transformable _ c.requires)
-
-pub shape_of-list : goal.shape_of-list
-unfolding root_of
-shape_of-list c = c.halve.auto.list ∙ c.arrange.auto.list
 
 pub returns : goal.returns
 unfolding root_of

@@ -1,7 +1,9 @@
--- `transform_table::back_by` meets its contract: the part is transformed, and then turned round.
+-- `transform_table::back_by` meets its contract: the list is transformed, and then turned round.
 -- Assumes nothing.
-use Rattle.transform_table.proofs.Steps.{turned_back}
+use mathlib.Core.Path.{sym, ap, ◌∙◌}
+use Rattle.transform_table.specs.Round.{turned_round}
+use Rattle.transform_table.proofs.Round.{sums_back}
 use Rattle.transform_table.proofs.back_by.Goals as goal
 
 pub returns : goal.returns
-returns c = turned_back _ _ _ _ _ c.requires _ _ c.transform_by.ensures c.turn_round.ensures
+returns c = c.turn_round.ensures ∙ ap turned_round c.transform_by.ensures ∙ sym (sums_back c.args.list.now c.requires.able)

@@ -1,4 +1,4 @@
--- `transform_table::lay_powers` meets its contract: at the loop's head i powers are tabled, and turn is the power i of the root.
+-- `transform_table::lay_powers` meets its contract: at the loop's head as many powers are tabled as turns are done, and turn is the next.
 -- Assumes nothing.
 use mathlib.Core.Path.{sym, ap, ◌∙◌}
 use Prim.Native.Nat.{ℕ}
@@ -12,21 +12,19 @@ use Rattle.lists.specs.Tab.{tab}
 use Rattle.lists.proofs.Window.{window_none, window_store, window_all}
 use Rattle.transform_table.proofs.lay_powers.Goals as goal
 
-pub loop-i-init : goal.loop-i-init
-loop-i-init c = (search rules, search rules, sym (power_zero _), window_none 0 _ _)
+pub loop-cell-init : goal.loop-cell-init
+loop-cell-init c = (sym (power_zero _), window_none 0 _ _)
 
-pub loop-i-preserved : goal.loop-i-preserved
-loop-i-preserved c =
-    let l = c.loop-i in (
-      search rules,
-      search rules,
-      c.product-turn.ensures.is ∙ ap (λ (x : ℕ). product x c.args.root) l.invariant.2 ∙ sym (power_step c.args.root l.i) ∙ ap (power c.args.root) (sym (add-one l.i)),
-      window_store 0 l.i l.i _ _ l.cells l.turn (sym (zero-add l.i)) (search rules) l.invariant.3 l.invariant.2,
+pub loop-cell-preserved : goal.loop-cell-preserved
+loop-cell-preserved c =
+    let l = c.loop-cell in let i = l.cell-index in (
+      c.product-turn.ensures.is ∙ ap (λ (x : ℕ). product x c.args.root) l.invariant.0 ∙ sym (power_step c.args.root i) ∙ ap (power c.args.root) (sym (add-one i)),
+      window_store 0 i i _ _ l.cells l.turn (sym (zero-add i)) (search rules) l.invariant.1 l.invariant.0,
     )
 
 pub returns : goal.returns
 returns c =
-    let l = c.loop-i in
-    l.invariant.3
-    ∙ window_all l.i _ _ (search rules)
+    let l = c.loop-cell in
+    l.invariant.1
+    ∙ window_all l.cell-index _ _ (search rules)
     ∙ ap (λ (n : ℕ). tab n (power c.args.root)) (omega arith)

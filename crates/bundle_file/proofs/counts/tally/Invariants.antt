@@ -1,15 +1,11 @@
--- What the loop of `bundle_file::counts::tally` keeps true, and what falls with each turn.
+-- What the loop of `bundle_file::counts::tally` keeps true: the counts passed have their symbols counted, the others are as they were.
 use mathlib.Core.Path.{◌≡◌}
-use Prim.Native.Nat.{◌+◌, ◌-◌, ◌≤◌}
-use lib.ListN.{length, get_or}
-use Rattle.lists.proofs.Window.{window}
+use Prim.Native.Nat.{ℕ, ◌<◌, ◌≤◌}
+use lib.ListN.{get_or}
 use Rattle.bundle_file.specs.Counts.{tallied}
 use Rattle.bundle_file.proofs.counts.tally.Given as goal
 
 abbrev pub invariant-loop-i : goal.invariant-loop-i
 invariant-loop-i l =
-    (l.i ≤ l.n) × (length l.cells ≡ length l.initial.cells)
-    × (l.cells ≡ window l.size l.i (λ j. tallied (get_or l.initial.cells (l.size + j) 0) (get_or l.initial.cells j 0)) l.initial.cells)
-
-abbrev pub decreases-loop-i : goal.decreases-loop-i
-decreases-loop-i l = l.n - l.i
+    ((j : ℕ) → j < l.i → get_or l.count-items j 0 ≡ tallied (get_or l.initial.count-items j 0) (get_or l.symbols j 0))
+    × ((j : ℕ) → l.i ≤ j → get_or l.count-items j 0 ≡ get_or l.initial.count-items j 0)

@@ -12,13 +12,13 @@ use Rattle.bundle_file.proofs.words.code_block.Goals as goal
 pub lay_block-requires : goal.lay_block-requires
 unfolding longest most_blocks
 lay_block-requires c =
-    let told = limits c.args.k c.args.n _ c.requires.0 in
-    (omega arith, omega arith, omega (arith, size_enough c.args.n (omega arith)))
+    let told = limits c.args.source.k c.args.source.n _ c.args.source.shaped in
+    (omega arith, omega arith, omega (arith, size_enough c.args.source.n (omega arith)))
 
 pub transform-requires : goal.transform-requires
 unfolding longest most_blocks
-transform-requires c = block_transformable c.args.k c.args.file.now c.args.b c.args.n c.lay_block.new.cells _ (λ i h. omega (arith, c.shared_slice_known-1.given i)) (bundle_shape_told _ _ _ c.requires.0).0 c.requires.2 c.lay_block.ensures
+transform-requires c = block_transformable c.args.source.k c.args.source.file.now c.args.b c.args.source.n c.lay_block.new.cells _ c.lay_block.ensures.message (bundle_shape_told _ _ _ c.args.source.shaped).0 c.requires.1 c.lay_block.ensures.laid
 
 pub returns : goal.returns
 unfolding longest most_blocks
-returns c = block_word c.args.k c.args.file.now c.args.b c.args.n c.lay_block.new.cells _ (λ i h. omega (arith, c.shared_slice_known-1.given i)) (bundle_shape_told _ _ _ c.requires.0).0 c.requires.2 c.lay_block.ensures _ c.transform.ensures
+returns c = block_word c.args.source.k c.args.source.file.now c.args.b c.args.source.n c.lay_block.new.cells _ c.lay_block.ensures.message (bundle_shape_told _ _ _ c.args.source.shaped).0 c.requires.1 c.lay_block.ensures.laid _ c.transform.ensures

@@ -6,6 +6,7 @@ use native.Mathlib.Omega.{arith}
 use lib.Seq.{length-take-le}
 use Rattle.limits.specs.Shape.{longest}
 use Rattle.bundle_storage.specs.Blocks.{most_blocks}
+use Rattle.bundle_file.proofs.Padding.{message_is}
 use Rattle.bundle_file.proofs.Messages.{laid_block}
 use Rattle.bundle_file.proofs.words.lay_block.Goals as goal
 
@@ -23,4 +24,8 @@ lay_words-requires c = omega (arith, mul-le-mul {n₂ = 4096} {m₂ = 65535} c.r
 
 pub returns : goal.returns
 unfolding longest most_blocks
-returns c = laid_block c.args.k c.args.file.now c.args.b c.args.cells.now c.lay_words.new.words c.clear.new.cells c.requires.2 c.lay_words.ensures c.clear.ensures
+returns c =
+    record {
+      laid = laid_block c.args.k c.args.file.now c.args.b c.args.cells.now c.lay_words.new.words c.clear.new.cells c.requires.2 c.lay_words.ensures c.clear.ensures;
+      message = message_is c.args.k c.args.file.now (λ i h. omega (arith, c.type_inv.file i)) c.args.b;
+    }

@@ -1,29 +1,19 @@
--- `bundle_file::words::lay_words` meets its contract: the words passed are those of the file.
+-- `bundle_file::words::lay_words` meets its contract: what has the entries of a table is the table.
 -- Assumes nothing.
-use mathlib.Core.Path.{sym, ap, ◌∙◌}
+use mathlib.Core.Path.{sym, ◌∙◌}
 use Prim.Native.Nat.{ℕ, ◌+◌, ◌*◌}
-use native.Mathlib.Nat.{zero-add}
 use native.Mathlib.Omega.{arith}
-use borrow.Author.Rules.{rules}
-use Rattle.bundle_storage.specs.Bytes.{two_at}
+use lib.ListN.{length}
+use lib.Seq.{ext_get_or}
 use Rattle.lists.specs.Tab.{tab}
-use Rattle.lists.proofs.Window.{window_none, window_store, window_all}
+use Rattle.lists.proofs.Tab.{tab_length, tab_at}
+use Rattle.bundle_storage.specs.Bytes.{two_at}
 use Rattle.bundle_file.proofs.words.lay_words.Goals as goal
-
-pub loop-i-init : goal.loop-i-init
-loop-i-init c = (search rules, search rules, window_none 0 _ _)
-
-pub loop-i-preserved : goal.loop-i-preserved
-loop-i-preserved c =
-    let l = c.loop-i in (
-      search rules,
-      search rules,
-      window_store 0 l.i l.i _ _ l.words _ (sym (zero-add l.i)) (search rules) l.invariant.2 c.word_at.ensures,
-    )
 
 pub returns : goal.returns
 returns c =
     let l = c.loop-i in
-    l.invariant.2
-    ∙ window_all l.i _ c.args.words.now (search rules)
-    ∙ ap (λ (m : ℕ). tab m (λ j. two_at c.args.file.now (c.args.from + 2 * j))) (omega arith)
+    let n = length c.args.words.now in
+    let f : ℕ → ℕ = λ i. two_at c.args.file.now (c.args.from + 2 * i) in
+    ext_get_or 0 l.words (tab n f) (omega (arith, l.auto.words, tab_length n f))
+    (λ i h. l.invariant i (omega (arith, l.auto.words)) ∙ sym (tab_at n f i (omega (arith, l.auto.words))))

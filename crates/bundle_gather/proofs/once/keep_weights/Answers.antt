@@ -1,34 +1,29 @@
--- `bundle_gather::once::keep_weights` meets its contract: the numbers passed stand behind the first half, the rest as they were.
+-- `bundle_gather::once::keep_weights` meets its contract: the first N numbers stand from 4N on too.
 -- Assumes nothing.
-use mathlib.Core.Path.{◌≡◌, refl, ap, ◌∙◌}
-use mathlib.Core.List.{List, ◌++◌}
-use Prim.Native.Nat.{ℕ, ◌+◌, ◌*◌, ◌≤◌}
+use mathlib.Core.Path.{◌≡◌, sym, ap, ◌∙◌}
+use mathlib.Core.List.{List, ◌++◌, append_assoc}
+use Prim.Native.Nat.{ℕ, ◌+◌, ◌*◌, ◌-◌, ◌≤◌}
 use native.Mathlib.Omega.{arith}
-use borrow.Author.Rules.{rules}
-use lib.ListN.{get_or, take, drop}
+use lib.ListN.{length, get_or, take, drop}
+use lib.Seq.{length-take-le, get_or-take}
 use Rattle.lists.specs.Tab.{tab}
-use Rattle.lists.proofs.Window.{window, window_none, window_store, window_before}
+use Rattle.std.specs.List.{copy_within}
+use Rattle.lists.proofs.Tab.{tab_ext, tab_get_or}
+use Rattle.bundle_gather.specs.Gathering.{with_weights}
 use Rattle.bundle_gather.proofs.once.keep_weights.Goals as goal
 
-all : (size j : ℕ) (d cells : List ℕ) → j ≤ size → size ≤ j → cells ≡ window (4 * size) j (λ i. get_or d i 0) d
-    → cells ≡ take (4 * size) d ++ (tab size (λ i. get_or d i 0) ++ drop (4 * size + size) d)
-unfolding window
-all size j d cells le ge is = is ∙ ap (λ (m : ℕ). window (4 * size) m (λ i. get_or d i 0) d) {x = j} {y = size} (omega arith)
+front : (n : ℕ) (s : List ℕ) → n ≤ length s → take n s ≡ tab n (λ i. get_or s i 0)
+front n s h =
+    sym (
+    tab_ext n _ _ (λ i l. sym (get_or-take n s i 0 l))
+    ∙ ap (λ (m : ℕ). tab m (λ i. get_or (take n s) i 0)) (sym (length-take-le n s h))
+    ∙ tab_get_or (take n s))
 
-pub loop-j-init : goal.loop-j-init
-loop-j-init c = (search rules, search rules, window_none _ _ _)
-
-pub loop-j-preserved : goal.loop-j-preserved
-loop-j-preserved c =
-    let l = c.loop-j in (
-      search rules,
-      search rules,
-      window_store (4 * c.args.size) l.j _ _ c.args.cells.now l.cells _ refl (search rules) l.invariant.2
-          (ap (λ (s : List ℕ). get_or s l.j 0) l.invariant.2 ∙ window_before (4 * c.args.size) l.j l.j _ c.args.cells.now (search rules) (search rules)),
-    )
-
-pub shape_of-cells : goal.shape_of-cells
-shape_of-cells c = c.loop-j.invariant.1
+copied : (size : ℕ) (cells : List ℕ) → size ≤ length cells → copy_within cells 0 size (4 * size) ≡ with_weights size cells
+copied size cells h =
+    append_assoc (take (4 * size) cells) (take (size - 0) cells) (drop (4 * size + (size - 0)) cells)
+    ∙ ap (λ (m : ℕ). take (4 * size) cells ++ (take m cells ++ drop (4 * size + m) cells)) {x = size - 0} {y = size} (omega arith)
+    ∙ ap (λ (new : List ℕ). take (4 * size) cells ++ (new ++ drop (4 * size + size) cells)) (front size cells h)
 
 pub returns : goal.returns
-returns c = let l = c.loop-j in all c.args.size l.j c.args.cells.now l.cells l.invariant.0 c.loop-j-test.false l.invariant.2
+returns c = c.copy_within.ensures.after ∙ copied c.args.size c.args.cells.now (omega arith)

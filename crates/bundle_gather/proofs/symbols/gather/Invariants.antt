@@ -1,10 +1,6 @@
--- What the loop of `bundle_gather::symbols::gather` keeps true, and what falls with each turn.
-use Prim.Native.Nat.{◌-◌, ◌≤◌}
+-- What the loop of `bundle_gather::symbols::gather` keeps true.
 use Rattle.bundle_gather.proofs.Gathering.{Passed}
 use Rattle.bundle_gather.proofs.symbols.gather.Given as goal
 
 abbrev pub invariant-loop-t : goal.invariant-loop-t
-invariant-loop-t l = (l.t ≤ l.held) × Passed l.bundle l.b l.t l.cells
-
-abbrev pub decreases-loop-t : goal.decreases-loop-t
-decreases-loop-t l = l.held - l.t
+invariant-loop-t l = Passed l.bundle.bytes.now l.b l.t l.cells

@@ -1,7 +1,7 @@
--- What the loop of `bundle_layout::checks::rest_good` keeps true, and what falls with each turn.
+-- What the loop of `bundle_layout::checks::rest_good` keeps true.
 use mathlib.Core.Path.{◌≡◌}
 use mathlib.Core.Bool.{false}
-use Prim.Native.Nat.{ℕ, ◌≤◌, ◌<◌, ◌-◌}
+use Prim.Native.Nat.{ℕ, ◌≤◌, ◌<◌}
 use lib.ListN.{length}
 use Rattle.bundle_layout.specs.Fields.{position_in}
 use Rattle.bundle_layout.specs.Layout.{start_of, bad_entry}
@@ -12,6 +12,3 @@ abbrev pub invariant-loop-t : goal.invariant-loop-t
 invariant-loop-t l =
     (l.t ≤ l.held) × (l.low ≡ least (position_in l.bundle) l.t) × (l.at ≡ start_of l.bundle l.t) × (l.at ≤ length l.bundle)
     × ((k : ℕ) → k < l.t → bad_entry l.bundle k ≡ false)
-
-abbrev pub decreases-loop-t : goal.decreases-loop-t
-decreases-loop-t l = l.held - l.t

@@ -1,60 +1,57 @@
 -- `bundle_read::blocks::read_blocks` meets its contract: at the loop's head the first b blocks are taken.
 -- Assumes nothing.
-use mathlib.Core.Path.{refl, sym, ap, ◌∙◌}
-use Prim.Native.Nat.{ℕ}
+use mathlib.Core.Path.{◌≡◌, refl, sym, ap, ◌∙◌}
+use mathlib.Core.List.{[], ◌∷◌}
+use Prim.Native.Nat.{ℕ, ◌≤◌}
 use native.Mathlib.Omega.{arith}
 use borrow.Author.Rules.{rules}
 use lib.ListN.{take}
-use Rattle.answers.proofs.Leaves.{told_refused}
-use Rattle.bundle_read.specs.Reading.{block_answer, file_in}
-use Rattle.bundle_read.proofs.BlockReading.{refused_none, answer_stops, answer_ends, file_whole, taken_none, taken_more}
+use Rattle.std.specs.Prelude.{⊤, Result, Err}
+use Rattle.answers.specs.Refusals.{the_result, told_outcome, after}
+use Rattle.answers.specs.declared.refusal.Refusal.{Refusal}
+use Rattle.bundle_layout.specs.Fields.{length_in, blocks_in}
+use Rattle.bundle_read.specs.Reading.{file_in}
+use Rattle.bundle_read.proofs.BlockReading.{answer_stops, answer_ends, file_whole, taken_none, taken_more}
 use Rattle.bundle_read.proofs.blocks.read_blocks.Goals as goal
 
-pub blocks_in-blocks-requires : goal.blocks_in-blocks-requires
-blocks_in-blocks-requires c = c.requires.readable.0
-
 pub loop-b-init : goal.loop-b-init
-loop-b-init c = (search rules, refl, taken_none c.args.bundle.now c.args.file.now c.args.cells.now c.requires.prepared.1 c.requires.readable.2)
+loop-b-init c = (refl, taken_none c.args.bundle.bytes.now c.args.file.now c.args.cells.now c.requires.prepared.1 c.requires.readable.1)
 
 pub read_block-requires : goal.read_block-requires
 read_block-requires c =
     let l = c.loop-b in
-    record { readable = (c.requires.readable.0, omega (arith, c.loop-b-test.true, c.blocks_in-blocks.ensures.0), c.requires.readable.1); prepared = (c.requires.prepared.0, l.invariant.2.laid) }
+    record {
+      readable = (omega (arith, c.loop-b-test.true, c.blocks-b-end.ensures.0), c.requires.readable.0);
+      prepared = (c.requires.prepared.0, l.invariant.1.laid);
+    }
 
 pub loop-b-preserved : goal.loop-b-preserved
 loop-b-preserved c =
-    let l = c.loop-b in (
-      search rules,
-      c.read_block.auto.file ∙ l.invariant.1,
-      taken_more c.args.bundle.now l.b l.file l.cells c.read_block.new.file c.read_block.new.cells _ c.requires.readable.0 (omega (arith, c.loop-b-test.true, c.blocks_in-blocks.ensures.0)) l.invariant.2 c.read_block.ensures.answer c.in-Done.is c.read_block.ensures.laid c.read_block.auto.file c.read_block.ensures.file,
+    let l = c.loop-b in
+    let told = c.in_ok-read_block.ensures in (
+      c.read_block.auto.file ∙ l.invariant.0,
+      taken_more c.args.bundle.bytes.now l.b l.file l.cells c.read_block.new.file c.read_block.new.cells c.args.bundle.good
+          (omega (arith, c.loop-b-test.true, c.blocks-b-end.ensures.0)) l.invariant.1 told.answer told.laid c.read_block.auto.file (told.file refl),
     )
 
-pub shape_of-file-in-Refused : goal.shape_of-file-in-Refused
-shape_of-file-in-Refused c = c.read_block.auto.file ∙ c.loop-b.invariant.1
-
-pub shape_of-cells-in-Refused : goal.shape_of-cells-in-Refused
-shape_of-cells-in-Refused c = c.read_block.auto.cells ∙ c.loop-b.invariant.2.laid.fixed.long ∙ sym c.requires.prepared.1.fixed.long
-
-pub returns-in-Refused : goal.returns-in-Refused
-returns-in-Refused c =
+pub returns-in_err-read_block-clause-answer : goal.returns-in_err-read_block-clause-answer
+returns-in_err-read_block-clause-answer c =
     let l = c.loop-b in
-    record {
-      answer = answer_stops c.args.bundle.now c.requires.readable.0 l.b c.in-Refused.refusal (omega (arith, c.loop-b-test.true, c.blocks_in-blocks.ensures.0)) l.invariant.2.left
-          (told_refused (block_answer c.args.bundle.now l.b) _ _ c.read_block.ensures.answer c.in-Refused.is);
-      file = refused_none c.in-Refused.refusal;
-    }
-
-pub shape_of-file : goal.shape_of-file
-shape_of-file c = c.loop-b.invariant.1
-
-pub shape_of-cells : goal.shape_of-cells
-shape_of-cells c = c.loop-b.invariant.2.laid.fixed.long ∙ sym c.requires.prepared.1.fixed.long
+    let s = c.args.bundle.bytes.now in
+    let x = c.in_err-read_block.field-0.0 in
+    let same : c.from_residual.result ≡ Err x = search rules in
+    ap (λ (r : Result ⊤ Refusal). after (told_outcome r) (the_result (length_in s ∷ []))) same
+    ∙ answer_stops s c.args.bundle.good l.b x (omega (arith, c.loop-b-test.true, c.blocks-b-end.ensures.0)) l.invariant.1.left
+    (sym c.in_err-read_block.ensures.answer)
 
 pub returns : goal.returns
 returns c =
     let l = c.loop-b in
+    let s = c.args.bundle.bytes.now in
+    let le : l.b ≤ blocks_in s = omega (arith, l.auto.b-end, c.blocks-b-end.ensures.0) in
+    let ge : blocks_in s ≤ l.b = omega (arith, c.loop-b-test.false, c.blocks-b-end.ensures.0) in
     record {
-      answer = answer_ends c.args.bundle.now c.requires.readable.0 l.b (omega (arith, l.invariant.0, c.blocks_in-blocks.ensures.0)) (omega (arith, c.loop-b-test.false, c.blocks_in-blocks.ensures.0)) l.invariant.2.left;
-      file = λ done. file_whole c.args.bundle.now c.requires.readable.0 l.b l.file l.invariant.2.long (omega (arith, l.invariant.0, c.blocks_in-blocks.ensures.0)) (omega (arith, c.loop-b-test.false, c.blocks_in-blocks.ensures.0)) l.invariant.2.so_far
-          ∙ ap (λ (m : ℕ). take m (file_in c.args.bundle.now)) l.invariant.1;
+      answer = answer_ends s c.args.bundle.good l.b le ge l.invariant.1.left;
+      file = λ done. file_whole s c.args.bundle.good l.b l.file l.invariant.1.long le ge l.invariant.1.so_far
+          ∙ ap (λ (m : ℕ). take m (file_in s)) l.invariant.0;
     }

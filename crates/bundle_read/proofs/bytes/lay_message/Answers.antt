@@ -1,6 +1,6 @@
 -- `bundle_read::bytes::lay_message` meets its contract: the words passed stand in the file, the rest is as it was.
 -- Assumes nothing.
-use mathlib.Core.Path.{◌≡◌, ap, ◌∙◌}
+use mathlib.Core.Path.{◌≡◌, refl, ap, ◌∙◌}
 use mathlib.Core.List.{List, ◌++◌}
 use Prim.Native.Nat.{ℕ, ◌+◌, ◌*◌, ◌≤◌}
 use native.Mathlib.Omega.{arith}
@@ -24,7 +24,7 @@ loop-i-init c = (search rules, search rules, window_none _ _ _)
 pub put_two-requires : goal.put_two-requires
 put_two-requires c =
     let l = c.loop-i in
-    (omega (arith, c.loop-i-test.true, c.requires.1, l.invariant.1), omega (arith, c.wide.ensures, c.requires.2 l.i (omega (arith, l.invariant.0, c.requires.0, c.loop-i-test.true))))
+    (omega (arith, c.loop-i-test.true, c.requires.1, l.invariant.1), omega (arith, c.requires.2 l.i (omega (arith, l.invariant.0, c.requires.0, c.loop-i-test.true))))
 
 pub loop-i-preserved : goal.loop-i-preserved
 loop-i-preserved c =
@@ -32,7 +32,7 @@ loop-i-preserved c =
       search rules,
       c.put_two.auto.bytes ∙ l.invariant.1,
       c.put_two.ensures
-          ∙ words_more c.args.message.now c.args.file.now l.file c.args.from l.i _ c.wide.ensures (omega (arith, c.wide.ensures, c.requires.2 l.i (omega (arith, l.invariant.0, c.requires.0, c.loop-i-test.true)))) (omega (arith, c.loop-i-test.true, c.requires.1)) l.invariant.2,
+          ∙ words_more c.args.message.now c.args.file.now l.file c.args.from l.i _ refl (omega (arith, c.requires.2 l.i (omega (arith, l.invariant.0, c.requires.0, c.loop-i-test.true)))) (omega (arith, c.loop-i-test.true, c.requires.1)) l.invariant.2,
     )
 
 pub shape_of-file : goal.shape_of-file

@@ -6,6 +6,7 @@ use native.Mathlib.Omega.{arith}
 use borrow.Author.Rules.{rules}
 use lib.ListN.{length, get_or}
 use Rattle.limits.specs.Shape.{longest}
+use Rattle.answers.proofs.First.{found_here, found_nowhere}
 use Rattle.code_positions.proofs.Repeating.{passed_none, passed_more, passed_here, passed_all}
 use Rattle.code_positions.proofs.repeats.first_repeat.Goals as goal
 use Rattle.code_positions.proofs.repeats.first_repeat.Goals.{In-loop-i}
@@ -20,10 +21,6 @@ pub loop-i-init : goal.loop-i-init
 unfolding longest
 loop-i-init c = (search rules, passed_none _ (longest / 32) _ (search rules))
 
-pub overflow_cast-position : goal.overflow_cast-position
-unfolding longest
-overflow_cast-position c = omega (arith, c.shared_slice_known-in-loop-i-1.given c.loop-i.i)
-
 pub is_seen-requires : goal.is_seen-requires
 unfolding longest
 is_seen-requires c = omega (arith, cell (goal.at.is_seen-requires c).In-loop-i)
@@ -33,7 +30,7 @@ unfolding longest
 returns-then-is_seen c =
     let l = c.loop-i in
     let found = sym c.is_seen.ensures ∙ c.if-is_seen.true in
-    omega (arith, passed_here _ l.map l.i l.invariant.1 _ (search rules) c.loop-i-test.true found)
+    found_here _ _ (passed_here _ l.map l.i l.invariant.1 _ (search rules) c.loop-i-test.true found) c.loop-i-test.true
 
 pub note_seen-requires : goal.note_seen-requires
 unfolding longest
@@ -52,4 +49,4 @@ pub returns : goal.returns
 unfolding longest
 returns c =
     let l = c.loop-i in
-    omega (arith, passed_all _ l.map l.i l.invariant.1 c.loop-i-test.false)
+    found_nowhere _ _ (omega (arith, passed_all _ l.map l.i l.invariant.1 c.loop-i-test.false))

@@ -11,9 +11,6 @@ overflow_sub-size c = omega (arith, fits _ _ _ c.requires.sizes.0 c.requires.siz
 pub overflow_add-size : goal.overflow_add-size
 overflow_add-size c = omega (arith, fits _ _ _ c.requires.sizes.0 c.requires.sizes.1 c.requires.sizes.2 c.requires.sizes.3 c.requires.sizes.4 c.requires.points.0 c.requires.points.1 _ c.size-span.ensures, size_small _ _ c.requires.sizes.1)
 
-pub offset_bounds-cells-size : goal.offset_bounds-cells-size
-offset_bounds-cells-size c = omega (arith, size_small _ _ c.requires.sizes.1)
-
 pub slice_bounds-multiply_out-end : goal.slice_bounds-multiply_out-end
 slice_bounds-multiply_out-end c = omega (arith, fits _ _ _ c.requires.sizes.0 c.requires.sizes.1 c.requires.sizes.2 c.requires.sizes.3 c.requires.sizes.4 c.requires.points.0 c.requires.points.1 _ c.size-span.ensures, c.requires.sizes.0)
 

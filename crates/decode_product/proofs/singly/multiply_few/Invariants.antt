@@ -1,9 +1,10 @@
--- What the loop of `decode_product::singly::multiply_few` keeps true, and what falls with each turn.
-use Rattle.decode_product.proofs.Stepping.{Stepped}
+-- What the loop of `decode_product::singly::multiply_few` keeps true: of the points, so many from the last down are multiplied out in the room.
+use mathlib.Core.Path.{◌≡◌}
+use Prim.Native.Nat.{◌-◌, ◌/◌}
+use lib.ListN.{length, take, drop}
+use Rattle.decode_product.specs.Factors.{lowers_of}
 use Rattle.decode_product.proofs.singly.multiply_few.Given as goal
 
-abbrev pub invariant-loop-left : goal.invariant-loop-left
-invariant-loop-left l = Stepped l.initial.cells l.left l.cells
-
-abbrev pub decreases-loop-left : goal.decreases-loop-left
-decreases-loop-left l = l.left
+abbrev pub invariant-loop-count : goal.invariant-loop-count
+invariant-loop-count l =
+    take (length l.yielded) l.room ≡ lowers_of (drop (length l.fn.cells / 2 - length l.yielded) (take (length l.fn.cells / 2) l.fn.cells))

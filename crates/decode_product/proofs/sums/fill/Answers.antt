@@ -1,39 +1,25 @@
--- `decode_product::sums::fill` meets its contract: at the loop's head i coefficients of each half stand in the room, and the lists are as they were.
+-- `decode_product::sums::fill` meets its contract: at the loop's head i coefficients stand in each room.
 -- Assumes nothing.
-use mathlib.Core.Path.{◌≡◌, ap, ◌∙◌}
-use Prim.Native.Nat.{◌/◌}
+use mathlib.Core.Path.{sym}
+use native.Mathlib.Nat.{zero-add}
 use native.Mathlib.Omega.{arith}
-use borrow.Author.Rules.{rules}
-use lib.ListN.{length, length-set}
-use Rattle.decode_product.proofs.Filling.{filling, filling_none, filling_good, filling_more, filled_low, filled_high}
+use Rattle.lists.proofs.Window.{window_none, window_store, window_done}
 use Rattle.decode_product.proofs.sums.fill.Goals as goal
 
 pub loop-i-init : goal.loop-i-init
-loop-i-init c = (search rules, search rules, filling_none _)
-
-pub low-below-requires : goal.low-below-requires
-low-below-requires c =
-    let l = c.loop-i in
-    (filling_good _ c.requires l.i l.cells l.invariant.2 l.invariant.0, search rules)
-
-pub high-above-requires : goal.high-above-requires
-high-above-requires c =
-    let l = c.loop-i in
-    (filling_good _ c.requires l.i l.cells l.invariant.2 l.invariant.0, search rules)
-
-pub bounds-cells-quarter-in-loop-i : goal.bounds-cells-quarter-in-loop-i
-bounds-cells-quarter-in-loop-i c = simp length-set (search rules)
+loop-i-init c = (window_none 0 _ _, window_none 0 _ _)
 
 pub loop-i-preserved : goal.loop-i-preserved
 loop-i-preserved c =
     let l = c.loop-i in (
-      search rules,
-      search rules,
-      filling_more _ c.requires l.i l.cells l.invariant.2 l.invariant.0 _ _ (search rules) c.low-below.ensures c.high-above.ensures,
+      window_store 0 l.i l.i _ _ l.below _ (sym (zero-add l.i)) (omega arith) l.invariant.0 c.low.ensures,
+      window_store 0 l.i l.i _ _ l.above _ (sym (zero-add l.i)) (omega arith) l.invariant.1 c.high.ensures,
     )
 
-pub returns : goal.returns
-returns c =
-    let l = c.loop-i in
-    let all : l.cells ≡ filling c.args.cells.now (length c.args.cells.now / 4) = l.invariant.2 ∙ ap (filling c.args.cells.now) (omega arith) in
-    record { first = filled_low _ c.requires l.cells all; second = filled_high _ c.requires l.cells all }
+pub returns-clause-lows : goal.returns-clause-lows
+returns-clause-lows c =
+    window_done _ c.loop-i.i _ c.args.below.now _ c.requires.1 (omega arith) c.loop-i-test.false c.loop-i.invariant.0
+
+pub returns-clause-highs : goal.returns-clause-highs
+returns-clause-highs c =
+    window_done _ c.loop-i.i _ c.args.above.now _ c.requires.2 (omega arith) c.loop-i-test.false c.loop-i.invariant.1

@@ -31,8 +31,8 @@ impl Cell for u8 {
 pub fn clear<T: Cell>(cells: &mut [T])
     ensures { cells.new ≡ replicate (length cells.old) T.zero }
 {
-    for cell in cells.iter_mut() {
-        *cell = T::zero();
+    for at in 0..cells.len() {
+        cells[at] = T::zero();
     }
 }
 
@@ -41,5 +41,7 @@ pub fn copy<T: Copy>(from: &[T], to: &mut [T])
     requires { length from.now ≤ length to.old }
     ensures { to.new ≡ written from.now to.old }
 {
-    to[..from.len()].copy_from_slice(from);
+    for (at, number) in from.iter().enumerate() {
+        to[at] = *number;
+    }
 }

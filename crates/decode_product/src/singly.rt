@@ -5,6 +5,7 @@ ghost use Rattle.poly.specs.Raised.{raised};
 ghost use Rattle.decode_product.specs.Factors.{lowers_of};
 ghost use Rattle.decode_product.specs.Halves.{SymbolsInFront};
 
+use cells::copy;
 use field::{difference, product};
 
 // (X - x) · L in place of L, without the highest coefficient, which is L's.
@@ -32,5 +33,5 @@ pub fn multiply_few(cells: &mut [u32])
         room[count] = 1;
         raise(&mut room[0..count + 1], *x);
     }
-    points.copy_from_slice(room);
+    copy(room, points);
 }

@@ -5,6 +5,8 @@ ghost use Rattle.lists.specs.Tab.{tab};
 ghost use Rattle.decode_product.specs.Factors.{coefficient, monic_times, run};
 ghost use Rattle.decode_product.specs.Halves.{ShortLists, TwoFactors, first_factor, second_factor};
 
+use cells::copy;
+
 // The products of the numbers of one list with those of the other from its end, added up. None is above 2^32, and there are no more than 2^14 of
 // them.
 fn run(a: &[u32], b: &[u32]) -> u64
@@ -56,6 +58,6 @@ pub fn multiply(cells: &mut [u32])
     let (first, below) = front.split_at_mut(quarter);
     let (second, above) = back.split_at_mut(quarter);
     fill(first, second, below, above);
-    first.copy_from_slice(below);
-    below.copy_from_slice(above);
+    copy(below, first);
+    copy(above, below);
 }

@@ -4,5 +4,5 @@ use mathlib.Core.List.{◌++◌}
 use lib.ListN.{drop, replicate}
 use Rattle.cells.proofs.clear.Given as goal
 
-abbrev pub invariant-loop-cell : goal.invariant-loop-cell
-invariant-loop-cell g l = l.cells ≡ replicate l.cell-index g.T.Cell.zero ++ drop l.cell-index l.initial.cells
+abbrev pub invariant-loop-at : goal.invariant-loop-at
+invariant-loop-at g l = l.cells ≡ replicate l.at g.T.Cell.zero ++ drop l.at l.initial.cells

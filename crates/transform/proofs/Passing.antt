@@ -1,13 +1,13 @@
 -- What the checks tell: where they pass, the list can be transformed and there is room; and what is left then.
 -- Assumes nothing.
-use mathlib.Core.Path.{◌≡◌, sym, ap, ap₂, ◌∙◌}
+use mathlib.Core.Path.{◌≡◌, refl, sym, ap, ap₂, ◌∙◌}
 use mathlib.Core.Bool.{Bool, false, ◌||◌}
 use mathlib.Core.List.{List, [], ◌++◌}
 use Prim.Native.Nat.{ℕ, ◌-◌, ◌≤◌}
 use borrow.Author.Tests.{ltb-false, eqb-true, not-false}
 use lib.Dec.{ltb, eqb}
 use lib.ListN.{length, take, drop, replicate}
-use Rattle.answers.specs.Leaves.{leaving}
+use Rattle.answers.specs.Leaves.{leaving, zeroed}
 use Rattle.answers.specs.Refusals.{the_result, refuse_if}
 use Rattle.limits.specs.Shape.{longest}
 use Rattle.field.specs.Size.{size_of}
@@ -39,15 +39,17 @@ module _ (list : List ℕ) (room : ℕ) (good : the_result [] ≡ transform_chec
   pub checks_enough : length list ≤ room
   checks_enough = ltb-false room (length list) after_room.0
 
+-- the stated part is cleared, and what lies behind it stays
+pub stated_zeroed : (size : ℕ) (work e : List ℕ) → size ≤ length work → e ≡ replicate (length (take (size - 0) work)) 0
+    → e ++ drop (size - 0) work ≡ zeroed size work
+stated_zeroed size work e enough zeros =
+    zeroed_part size size work refl enough e (zeros ∙ ap (λ (m : ℕ). replicate m 0) (lent_length size size work refl enough))
+
 -- what is left once the list is transformed and as much of the working space as it is long cleared
 pub both_leave : (back : Bool) (list work now e : List ℕ) → the_result [] ≡ transform_checks list (length work) → now ≡ one_of back list
-    → length now ≡ length list → e ≡ replicate (length (take (length now - 0) work)) 0
-    → leaving (the_result []) now (e ++ drop (length now - 0) work) ≡ call_leaves back list work
+    → length now ≡ length list → e ≡ zeroed (length now) work → leaving (the_result []) now e ≡ call_leaves back list work
 both_leave back list work now e good is long zeros =
-    let enough = checks_enough list (length work) good in
-    ap₂ (leaving (the_result [])) is
-    (zeroed_part (length now) (length list) work long enough e (zeros ∙ ap (λ (m : ℕ). replicate m 0) (lent_length (length now) (length list) work long enough)))
-    ∙ leaves_done (transform_checks list (length work)) list work _ (sym good)
+    ap₂ (leaving (the_result [])) is (zeros ∙ ap (λ (n : ℕ). zeroed n work) long) ∙ leaves_done (transform_checks list (length work)) list work _ (sym good)
 
 -- what both calls are proved by
 pub ruleset calls = (checks_able, checks_enough, both_leave)

@@ -20,12 +20,11 @@ begun : (s : List ℕ) (x : ℕ) → 0 ≡ value (drop (length s) s) x % 65537
 unfolding value
 begun s x = rw drop-length
 
--- a turn: a, b and d are the coefficient before index i, x and the result, widened
-turn : (s : List ℕ) (x i result a b d : ℕ) → 0 < i → i ≤ length s → result ≡ value (drop i s) x % 65537
-    → a ≡ get_or s (i - 1) 0 → b ≡ x → d ≡ result → (a + b * d) % 65537 ≡ value (drop (i - 1) s) x % 65537
-turn s x i result a b d some inside held wide-a wide-b wide-d =
-    rw (wide-a, wide-b, wide-d)
-    (horner_step s x (i - 1) result (omega arith) (held ∙ ap (λ (n : ℕ). value (drop n s) x % 65537) before))
+-- a turn: wide is the sum before it is reduced
+turn : (s : List ℕ) (x i result wide : ℕ) → 0 < i → i ≤ length s → result ≡ value (drop i s) x % 65537
+    → wide ≡ get_or s (i - 1) 0 + x * result → wide % 65537 ≡ value (drop (i - 1) s) x % 65537
+turn s x i result wide some inside held sum =
+    rw sum (horner_step s x (i - 1) result (omega arith) (held ∙ ap (λ (n : ℕ). value (drop n s) x % 65537) before))
   where
     before : i ≡ suc (i - 1)
     before = omega arith
@@ -45,8 +44,9 @@ overflow_add-wide c = omega (arith, small_product c.from-in-loop-i.result c.from
 pub loop-i-preserved : goal.loop-i-preserved
 loop-i-preserved c =
     let l = c.loop-i in
-    let coefficient : c.from.result ≡ get_or c.args.coefficients.now (l.i - 1) 0 = grind (arith, c.from.ensures) in
-    (turn _ _ l.i l.result _ _ _ (omega arith) l.auto.i l.invariant.0 coefficient c.from-in-loop-i.ensures c.from-in-loop-i-2.ensures, omega arith)
+    let sum : c.from.result + c.from-in-loop-i.result * c.from-in-loop-i-2.result ≡ get_or c.args.coefficients.now (l.i - 1) 0 + c.args.x * l.result =
+    rw (c.from.ensures, c.from-in-loop-i.ensures, c.from-in-loop-i-2.ensures) (grind arith) in
+    (turn _ _ l.i l.result _ (omega arith) l.auto.i l.invariant.0 sum, omega arith)
 
 pub returns : goal.returns
 returns c =

@@ -55,8 +55,13 @@ impl Refusal {
     }
 }
 
-// As the listing prints it.
+// As the listing prints it, but for the line feed.
 impl fmt::Display for Refusal {
+    ghost use Rattle.std.specs.Prelude.{Some};
+    ghost use Rattle.answers.specs.Printed.{refusal_text};
+
+    ghost output = { λ refusal. Some (refusal_text refusal) };
+
     fn fmt<W: fmt::Write>(&self, f: &mut fmt::Formatter<W>) -> fmt::Result {
         let number = self.number();
         let place = self.place();

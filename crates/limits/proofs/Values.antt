@@ -9,7 +9,7 @@ use borrow.Author.Tests.{ltb-false, le-ltb}
 use lib.Dec.{ltb, lit<}
 use lib.ListN.{length, get_or}
 use Rattle.std.specs.List.{position}
-use Rattle.std.specs.Prelude.{Option, Some, None}
+use Rattle.std.specs.Prelude.{Some, None}
 use Rattle.answers.specs.First.{found}
 use Rattle.answers.specs.Refusals.{Answer, the_result, refused}
 use Rattle.field.specs.Symbol.{Symbols}

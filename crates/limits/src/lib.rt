@@ -1,5 +1,5 @@
-// No entry points: the limits that several calls test alike, SHAPE of a block, ROOM and VALUE. They take any numbers and write nothing; it is the
-// entry point that refuses.
+// No entry points: the limits that several calls test alike, SHAPE of a block, ROOM and VALUE. They take any numbers and write nothing; VALUE is
+// refused here, by `check_symbols`, and the others by the entry point.
 #![tactic(auto)]
 
 ghost use Rattle.std.specs.Prelude.{◌≡◌, ◌||◌, [], ltb};

@@ -1,14 +1,12 @@
--- The laws of a polynomial's value: the plain sum, the split into even and odd places, and Horner's rule as a fold takes it.
+-- The laws of a polynomial's value: the plain sum, the split into even and odd places, and one step of Horner's rule as a loop takes it.
 -- Assumes nothing.
 use mathlib.Core.Path.{◌≡◌, refl, sym, ap, ◌∙◌}
 use mathlib.Core.List.{List, [], ◌∷◌, ◌++◌}
 use Prim.Native.Nat.{ℕ, zero, suc, ◌+◌, ◌*◌, ◌^◌, ◌%◌, ◌<◌, ◌≤◌, suc-le-suc}
 use native.Mathlib.Nat.{pow-suc, pow-zero, zero-mul, zero-lt-suc, le_of_suc-le-suc, not-suc-le-zero}
 use native.Mathlib.Omega.{arith}
-use lib.ListN.{length, get_or, take, replicate}
-use Rattle.std.specs.Prelude.{reverse, fold}
-use Rattle.std.proofs.lemmas.List.{reverse-append}
-use Rattle.std.proofs.lemmas.List.Sums.{fold-append}
+use lib.ListN.{length, get_or, take, drop, replicate}
+use lib.Seq.{drop-cons}
 use Rattle.field.specs.Congruence.{◌≈◌}
 use Rattle.field.proofs.Congruence.{≈-refl, ≈-of, ◌∘≈◌, ◌+≈◌, ◌·≈◌, mul-≈, mod-≈}
 use Rattle.poly.specs.Parts.{evens, odds}
@@ -50,14 +48,12 @@ unfolding value
 value_zeros zero x = refl
 value_zeros (suc n) x = omega (arith, ap (x *◌) (value_zeros n x))
 
--- Horner's rule, from the last coefficient down
-pub horner : (s : List ℕ) (x : ℕ) → fold (λ rest a. (a + x * rest) % 65537) 0 (reverse s) ≡ value s x % 65537
+-- one step of Horner's rule, from the coefficients after index i to those from it on
+pub horner_step : (s : List ℕ) (x i result : ℕ) → i < length s → result ≡ value (drop (suc i) s) x % 65537
+    → (get_or s i 0 + x * result) % 65537 ≡ value (drop i s) x % 65537
 unfolding value
-horner [] x = refl
-horner (a ∷ s) x =
-    ap (fold (λ rest b. (b + x * rest) % 65537) 0) (reverse-append (a ∷ []) s)
-    ∙ fold-append (λ rest b. (b + x * rest) % 65537) 0 (reverse s) (a ∷ [])
-    ∙ (≈-refl {a = a} +≈ x ·≈ (≈-of (horner s x) ∘≈ mod-≈ (value s x))).mods
+horner_step s x i result inside held =
+    rw (drop-cons s i 0) (≈-refl +≈ x ·≈ (≈-of held ∘≈ mod-≈ (value (drop (suc i) s) x))).mods
 
 -- the value of a list that is given by its entries
 pub value_tab : (n : ℕ) (f : ℕ → ℕ) (x : ℕ) → value (tab n f) x ≡ total n (λ i. f i * x ^ i)

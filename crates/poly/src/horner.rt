@@ -7,8 +7,10 @@ ghost use Rattle.poly.specs.Value.{value};
 pub fn value(coefficients: &[u32], x: u32) -> u32
     ensures { IsSymbol result (value coefficients.now x % 65537) }
 {
-    coefficients.iter().rev().fold(0, |rest, coefficient| {
-        let wide = u64::from(*coefficient) + u64::from(x) * u64::from(rest);
-        (wide % 65537) as u32
-    })
+    let mut result: u32 = 0;
+    for i in (0..coefficients.len()).rev() {
+        let wide = u64::from(coefficients[i]) + u64::from(x) * u64::from(result);
+        result = (wide % 65537) as u32;
+    }
+    result
 }

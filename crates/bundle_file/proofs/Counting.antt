@@ -6,11 +6,11 @@ use mathlib.Core.List.{List, [], ◌∷◌, ◌++◌}
 use Prim.Native.Nat.{ℕ, zero, suc, ◌+◌, ◌-◌, ◌*◌, ◌<◌, ◌≤◌}
 use native.Mathlib.Decide.{dec_lt}
 use native.Mathlib.Omega.{arith}
-use borrow.Author.Tests.{eq-eqb, eqb-true, not-false}
+use borrow.Author.Tests.{eq-eqb, ne_eqb, eqb-true, not-false}
 use lib.Dec.{eqb}
 use Rattle.std.proofs.Common.{◌↔◌, EachIndex}
 use lib.ListN.{length, get_or, take, drop, length-append, length-drop, get_or-append}
-use lib.Seq.{length-take-le, get_or-take, get_or-drop}
+use lib.Seq.{length-take-le, get_or-take, get_or-drop, get_or-append-add}
 use Rattle.field.specs.Size.{size_of}
 use Rattle.field.proofs.Sizes.{size_enough}
 use Rattle.lists.proofs.Tab.{tab_at}
@@ -25,6 +25,14 @@ use Rattle.bundle_file.specs.Counts.{tallied, none_counted, Coded, Counted}
 
 pub n_fits : (k n L : ℕ) → bad_bundle_shape k n L ≡ false → n ≤ size_of n
 n_fits k n L shape = size_enough n (omega (arith, limits k n L shape))
+
+pub tallied_over : (count x : ℕ) → x ≡ 65536 → count + 1 ≡ tallied count x
+unfolding tallied
+tallied_over count x over = rw (eq-eqb x 65536 over)
+
+pub tallied_not : (count x : ℕ) → (x ≡ 65536 → ⊥) → count ≡ tallied count x
+unfolding tallied
+tallied_not count x low = rw (ne_eqb x 65536 low) (omega arith)
 
 -- two tests of which each tells the other
 same_test : (s t : Bool) → (s ≡ true → t ≡ true) → (t ≡ true → s ≡ true) → s ≡ t
@@ -73,6 +81,22 @@ module _ (n S : ℕ) (cells : List ℕ) (size : (S ≡ size_of n) × (n ≤ S)) 
     coded word kept is i h =
         let long : length word ≡ size_of n = kept ∙ length-take-le (S - 0) cells (omega (arith, counted.long, size.0)) ∙ omega (arith, size.0) in
         get_or-append word _ 0 i (omega (arith, size)) ∙ sym (get_or-take n word i 0 h) ∙ ap (λ (l : List ℕ). get_or l i 0) is ∙ tab_at n _ i h
+
+    -- the counts stay
+    pub coded_counts : (word : List ℕ) → length word ≡ length (take (S - 0) cells) → Counted k n file b (word ++ drop (S - 0) cells)
+    coded_counts word kept =
+        record {
+          long = omega (arith, length-append word (drop (S - 0) cells), length-drop (S - 0) cells, counted.long, size.0, long);
+          counts = λ i h.
+              ap (λ (m : ℕ). get_or (word ++ drop (S - 0) cells) (m + i) 0) {x = size_of n} {y = length word} (sym long)
+              ∙ get_or-append-add word (drop (S - 0) cells) i 0
+              ∙ get_or-drop (S - 0) cells i 0
+              ∙ ap (λ (m : ℕ). get_or cells (m + i) 0) {x = S - 0} {y = size_of n} (omega (arith, size.0))
+              ∙ counted.counts i h;
+        }
+      where
+        long : length word ≡ size_of n
+        long = kept ∙ length-take-le (S - 0) cells (omega (arith, counted.long, size.0)) ∙ omega (arith, size.0)
 
     pub count_here : (i : ℕ) → i < n → get_or cells (S + i) 0 ≡ count_of b (symbol_at k n file i)
     count_here i h = ap (λ (m : ℕ). get_or cells (m + i) 0) size.0 ∙ counted.counts i h

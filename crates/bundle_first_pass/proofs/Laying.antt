@@ -66,7 +66,7 @@ module _ (k n : ℕ) (file : List ℕ) where
 
     -- start is the output before the block, out before the turn, after behind it
     module _ (b : ℕ) (l : b < blocks_of k (length file)) (start out : List ℕ) (before : Plain k n file b start) (on : Plainly k n file start out) where
-      still_room : length (file_bundle k n file) ≤ length out
+      pub still_room : length (file_bundle k n file) ≤ length out
       still_room = omega (arith, before.room, on.long)
 
       module _ (x : ℕ) (symbol : x ≡ symbol_at k n file i b) (after : List ℕ) (kept : length after ≡ length out) (is : after ≡ stored at 0 0 b x out) where

@@ -38,6 +38,10 @@ module _ (bundle : List ℕ) where
       each : (i : ℕ) → i < length (take (length bundle) t) → get_or (take (length bundle) t) i 0 ≡ get_or bundle i 0
       each i h = get_or-take (length bundle) t i 0 (omega (arith, long)) ∙ stands i (omega arith) (omega (arith, long))
 
+  -- where it is written after that, it is written all the same
+  pub written_on : (s t u : List ℕ) → Onward bundle s t → u ≡ written bundle t → u ≡ written bundle s
+  written_on s t u on is = is ∙ ap (bundle ++◌) on.behind
+
   module _ (bytes : List ℕ) (at : ℕ) (s : List ℕ) (room : length bundle ≤ length s) (inside : at + length bytes ≤ length bundle) (same : Alike (length bytes) bundle at bytes 0) where
     pub put_stands : Stand at (at + length bytes) bundle (put bytes at s)
     put_stands p h l =

@@ -8,8 +8,8 @@ use native.Mathlib.Omega.{arith}
 use lib.ListN.{length, take, drop, set, length-append, length-take, length-drop, take-append-drop}
 use lib.Seq.{take_at, drop_at, drop-drop, drop-append-add, length-take-le, sets-eq}
 use Rattle.answers.specs.Leaves.{written}
-use Rattle.bundle_storage.specs.Bytes.{two, put}
-use Rattle.bundle_storage.proofs.BytesLaws.{Alike, alike_past, alike_front, alike_take, alike_drop}
+use Rattle.bundle_storage.specs.Bytes.{two, four, put}
+use Rattle.bundle_storage.proofs.BytesLaws.{Alike, alike_past, alike_front, alike_take, alike_drop, two_length}
 
 -- new bytes in the place of old ones
 pub put_at : (bytes p old q : List ℕ) (at : ℕ) → length p ≡ at → length old ≡ length bytes → put bytes at (p ++ (old ++ q)) ≡ p ++ (bytes ++ q)
@@ -68,6 +68,11 @@ stores_two x at s h l =
     ∙ ap (λ (a : ℕ). set (set s at a) (suc at) (x % 256)) {x = x / 256} {y = x / 256 % 256} (omega arith)
     ∙ sets-eq (x / 256 % 256 ∷ x % 256 ∷ []) s at (omega arith)
     ∙ append_assoc (take at s) _ _
+
+pub puts_four : (x at : ℕ) (s : List ℕ) → at + 3 < length s → put (two (x % 65536)) (at + 2) (put (two (x / 65536)) at s) ≡ put (four x) at s
+unfolding four
+puts_four x at s h =
+    put_more (two (x / 65536)) (two (x % 65536)) at (at + 2) s (omega (arith, two_length (x / 65536))) (omega arith)
 
 -- What stands there after a put
 

@@ -1,9 +1,9 @@
 -- The bodies as the second pass fills them, each symbol where the table says; and that all of the bundle stands once they are filled, by this pass
 -- or by the first.
 -- Assumes nothing.
-use mathlib.Core.Path.{◌≡◌, refl, ◌∙◌}
+use mathlib.Core.Path.{◌≡◌, refl, ap, ◌∙◌}
 use mathlib.Core.Bool.{false}
-use mathlib.Core.List.{List}
+use mathlib.Core.List.{List, ◌++◌}
 use Prim.Native.Nat.{ℕ, zero, suc, ◌+◌, ◌*◌, ◌<◌, ◌≤◌}
 use native.Mathlib.Decide.{dec_lt}
 use native.Mathlib.Omega.{arith}
@@ -23,7 +23,7 @@ use Rattle.bundle_first_pass.proofs.Filling.{filled_on, filled_none, body_inside
 use Rattle.bundle_write.specs.Writing.{Progress}
 use Rattle.bundle_front.proofs.Bundling.{body_at, body_first, body_next, bundle_end, bundle_count, bundle_offset}
 use Rattle.bundle_file.proofs.Counting.{count_up}
-use Rattle.bundle_front.proofs.Onward.{onward_more, all_written}
+use Rattle.bundle_front.proofs.Onward.{onward_more, all_written, written_on}
 
 module _ (k n : ℕ) (file : List ℕ) (shape : bad_bundle_shape k n (length file) ≡ false) where
   -- what the table says, once it stands
@@ -117,3 +117,6 @@ module _ (k n : ℕ) (file : List ℕ) (shape : bad_bundle_shape k n (length fil
 
     pub second_begun : Progress k n file 0 u
     second_begun = record { room = room_left; front = table; bodies = λ i h. filled_none k n file i u }
+
+    pub second_written : (v : List ℕ) → v ≡ written (file_bundle k n file) u → v ≡ written (file_bundle k n file) s
+    second_written v is = written_on (file_bundle k n file) t u v on is ∙ ap (file_bundle k n file ++◌) first.behind

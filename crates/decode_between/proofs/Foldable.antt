@@ -8,7 +8,7 @@ use native.Mathlib.Nat.{mul-le-mul, div-eq_of_eq-mul_left, le_of_eq, le_trans}
 use native.Mathlib.Omega.{arith}
 use lib.ListN.{length, get_or, take, drop, length-drop}
 use lib.Pow.{pow-add, pow_pos}
-use lib.Seq.{get_or-drop, length-take-le}
+use lib.Seq.{get_or-take, get_or-drop, length-take-le}
 use Rattle.field.specs.Field.{power}
 use Rattle.limits.specs.Shape.{bad_shape}
 use Rattle.field.specs.Size.{level_of, size_of}
@@ -103,6 +103,27 @@ module _ (N K : ℕ) (cells : List ℕ) (room : Foldable N K cells) where
 
   pub rows : N ≡ N / K * K
   rows = multiple N K room.table.N_power room.K_power room.K_fits
+
+  -- row b, column i
+  pub cell_inside : (b i : ℕ) → b < N / K → i < K → b * K + i < N
+  cell_inside b i lb li = omega (arith, rows, mul-le-mul {n₂ = N / K} {m₂ = K} lb (le_of_eq refl))
+
+  coefficient_lt : (j : ℕ) → j < N → get_or cells j 0 < 65537
+  coefficient_lt j l =
+      rw (get_or-take N cells j 0 l) at (room.symbols j (omega (arith, length-take-le N cells (omega (arith, room.table.long)))))
+
+  pub cell_term_le : (j : ℕ) → j < N → get_or cells j 0 * get_or cells (3 * N + j) 0 ≤ 4294967296
+  cell_term_le j l = symbols_product _ _ (coefficient_lt j l) (rw (power_at N cells room.table j l) (power_lt (psi N) j))
+
+  -- it is still that where the coefficients and the powers stay
+  pub room_kept : (e : List ℕ) → length e ≡ length cells → take N e ≡ take N cells → drop (3 * N) e ≡ drop (3 * N) cells → Foldable N K e
+  room_kept e same front back =
+      record {
+        table = table_kept N cells room.table e same back;
+        K_power = room.K_power;
+        K_fits = room.K_fits;
+        symbols = subst Symbols (sym front) room.symbols;
+      }
 
   -- the coefficients and the powers, lent
   pub lent_columns : (f powers : List ℕ) → f ≡ take N cells → powers ≡ drop (3 * N) cells → Columns K f powers × (length f ≡ N)

@@ -6,7 +6,7 @@ use Prim.Native.Nat.{ℕ, zero, suc, ◌+◌, ◌-◌, ◌*◌, ◌/◌, ◌^◌
 use native.Mathlib.Nat.{zero-mul, mod-eq_of_lt, le_of_eq, le_trans}
 use native.Mathlib.Omega.{arith}
 use lib.Dec.{lit<}
-use lib.ListN.{length, get_or, take, drop, set, replicate, length-append, length-drop, length-replicate, get_or-replicate}
+use lib.ListN.{length, get_or, take, drop, set, replicate, length-set, length-append, length-drop, length-replicate, get_or-replicate}
 use lib.Pow.{pow_pos}
 use lib.Seq.{length-take-le, take_at, drop_at, take-take, take-append-add, drop-append-add, drop-drop, get_or-take, get_or-drop, get_or-append-add, set_at, ext_get_or}
 use Rattle.std.specs.List.{copy_within}
@@ -226,3 +226,6 @@ module _ (N u : ℕ) (zs s₁ : List ℕ) (count : length zs ≡ u) (few : u < N
       pub laid_long : length (set behind u 1) ≡ length s₁
       laid_long =
           ap length one_laid ∙ length-append (vanishing zs ++ replicate (N - u - 1) 0) (drop N s₁) ∙ omega (arith, whole_long, length-drop N s₁, long)
+
+      pub behind_long : length behind ≡ length s₁
+      behind_long = sym (length-set behind u 1) ∙ laid_long

@@ -5,15 +5,26 @@ use mathlib.Core.List.{List, [], ◌++◌, append-nil, append_assoc}
 use Prim.Native.Nat.{ℕ, ◌+◌, ◌-◌, ◌*◌, ◌<◌, ◌≤◌}
 use native.Mathlib.Nat.{le_of_eq}
 use native.Mathlib.Omega.{arith}
-use lib.ListN.{length, get_or, take, drop, replicate, length-append, length-drop, length-replicate, drop_of_length-le, get_or-append}
-use lib.Seq.{length-take-le, take_at, drop_at, drop-append-add, drop-drop, get_or-take, get_or-drop, ext_get_or}
+use lib.ListN.{length, get_or, take, drop, replicate, length-append, length-drop, length-replicate, get_or-replicate, drop_of_length-le, get_or-append}
+use lib.Seq.{length-take-le, take_at, drop_at, take-append-le, drop-append-add, drop-drop, get_or-take, get_or-drop, ext_get_or}
 use Rattle.field.specs.Field.{power}
+use Rattle.field.specs.Size.{size_of}
 use Rattle.lists.specs.Tab.{tab}
 use Rattle.lists.proofs.Tab.{tab_length}
 use Rattle.lists.specs.Part.{part}
 use Rattle.decode_between.specs.Between.{psi}
 use Rattle.decode_missing.specs.Missing.{missing_points}
 use Rattle.decode_missing.proofs.Laying.{unmarked_le}
+
+zeros_taken : (m n : ℕ) → m ≤ n → take m (replicate {A = ℕ} n 0) ≡ replicate m 0
+zeros_taken m n l =
+    ext_get_or 0 _ _ (long ∙ sym (length-replicate {A = ℕ} m 0)) (λ i k.
+    get_or-take m (replicate n 0) i 0 (omega (arith, long))
+    ∙ get_or-replicate n i 0 0 (omega (arith, long))
+    ∙ sym (get_or-replicate m i 0 0 (omega (arith, long))))
+  where
+    long : length (take m (replicate {A = ℕ} n 0)) ≡ m
+    long = length-take-le m (replicate n 0) (omega (arith, length-replicate {A = ℕ} n 0))
 
 -- The beginning: the powers laid behind, the front cleared
 
@@ -82,6 +93,16 @@ module _ (N : ℕ) (d : List ℕ) (long : length d ≡ 4 * N) where
           ∙ drop-append-add e (drop (2 * N - 0) laid) (m - 2 * N)
           ∙ drop-drop (m - 2 * N) (2 * N - 0) laid
           ∙ ap (λ (x : ℕ). drop x laid) {x = 2 * N - 0 + (m - 2 * N)} {y = m} (omega arith)
+
+      clean_long : length clean ≡ 4 * N
+      clean_long = length-append e _ ∙ omega (arith, e_long, length-drop (2 * N - 0) laid, laid_long, long)
+
+      pub missing_asked : N ≡ size_of N → (length clean ≡ 4 * N) × (N ≡ size_of N) × (take N clean ≡ replicate N 0)
+      missing_asked power_of_two = (
+        clean_long,
+        power_of_two,
+        take-append-le N e _ (omega (arith, e_long)) ∙ ap (take N) e_is ∙ zeros_taken N (2 * N) (omega arith),
+      )
 
       marks_are : take N (drop (2 * N) clean) ≡ take N (drop (2 * N) d)
       marks_are = ap (take N) (clean_rest (2 * N) (le_of_eq refl)) ∙ laid_marks

@@ -120,10 +120,13 @@ module _ (d : List ℕ) (good : SymbolsInFront d) (many : 4 ≤ length d) (e : L
           second = subst Symbols (sym second_factor_is) (symbols_at _ (lowers_symbols (second_factor e)));
         }
 
+    pub both_length : length (u ++ v) ≡ length d
+    both_length = all ∙ kept
+
     pub multiplied : (p : List ℕ) → take (length (u ++ v) / 2) p ≡ monic_times (first_factor (u ++ v)) (second_factor (u ++ v))
         → take (length d / 2) p ≡ lowers_of (take (length d / 2) d)
     multiplied p is =
-        ap (λ (n : ℕ). take (n / 2) p) (sym (all ∙ kept))
+        ap (λ (n : ℕ). take (n / 2) p) (sym both_length)
         ∙ is
         ∙ ap₂ monic_times first_factor_is second_factor_is
         ∙ sym (ap lowers_of points_are ∙ lowers_append (first_factor e) (second_factor e) few)

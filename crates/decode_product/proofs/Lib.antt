@@ -1,6 +1,7 @@
 pub mod Times
 pub mod Lowers
 pub mod Quarters
+pub mod Copying
 pub mod Runs
 pub mod Padding
 pub mod Wrapping

@@ -1,12 +1,12 @@
 -- Cells that are a power of two, at least four: their quarters, and the two lists that stand at the front of the halves.
 -- Assumes nothing.
-use mathlib.Core.Path.{◌≡◌, refl, ap}
+use mathlib.Core.Path.{◌≡◌, refl, sym, ap, ◌∙◌}
 use mathlib.Core.List.{List}
-use Prim.Native.Nat.{ℕ, zero, suc, ◌+◌, ◌*◌, ◌^◌, ◌/◌, ◌≤◌}
+use Prim.Native.Nat.{ℕ, zero, suc, ◌+◌, ◌*◌, ◌^◌, ◌/◌, ◌<◌, ◌≤◌}
 use native.Mathlib.Omega.{arith}
 use lib.Pow.{pow_mono}
-use lib.ListN.{length, drop, length-drop}
-use lib.Seq.{length-take-le}
+use lib.ListN.{length, get_or, drop, length-drop}
+use lib.Seq.{length-take-le, get_or-take, get_or-drop}
 use Rattle.field.specs.Size.{level_of, size_of}
 use Rattle.field.proofs.Sizes.{level_le, size_power}
 use Rattle.decode_product.specs.Halves.{TwoFactors, first_factor, second_factor}
@@ -53,3 +53,16 @@ module _ (d : List ℕ) (two : TwoFactors d) where
 
   pub second_factor_length : length (second_factor d) ≡ length d / 4
   second_factor_length = length-take-le (length d / 4) (drop (length d / 2) d) (omega (arith, length-drop (length d / 2) d))
+
+  module _ (i : ℕ) (h : i < length d / 4) where
+    pub first_factor_at : get_or d i 0 ≡ get_or (first_factor d) i 0
+    first_factor_at = sym (get_or-take (length d / 4) d i 0 h)
+
+    pub second_factor_at : get_or d (length d / 2 + i) 0 ≡ get_or (second_factor d) i 0
+    second_factor_at = sym (get_or-take (length d / 4) (drop (length d / 2) d) i 0 h ∙ get_or-drop (length d / 2) d i 0)
+
+    pub first_factor_small : get_or d i 0 < 65537
+    first_factor_small = rw first_factor_at (two.first i (omega (arith, first_factor_length)))
+
+    pub second_factor_small : get_or d (length d / 2 + i) 0 < 65537
+    second_factor_small = rw second_factor_at (two.second i (omega (arith, second_factor_length)))

@@ -8,7 +8,7 @@ use native.Mathlib.Omega.{arith}
 use lib.ListN.{length, get_or, take, drop, length-drop, replicate, length-replicate, get_or-replicate, get_or-append, get_or-eq_default}
 use lib.Seq.{length-take-le, take_all, get_or-take, get_or-drop, get_or-append-add}
 use Rattle.poly.specs.Sum.{total}
-use Rattle.poly.proofs.Sum.{total_ext, total_zero, total_append}
+use Rattle.poly.proofs.Sum.{total_ext, total_zero, total_append, total_more}
 use Rattle.decode_product.specs.Factors.{crossed, run, coefficient}
 
 -- only the terms in the middle are not 0
@@ -27,6 +27,23 @@ run_whole a b i all =
     total_ext i _ (λ j. get_or a (0 + j) 0 * get_or b (length a - suc j) 0)
     (λ j h. ap (λ (n : ℕ). get_or a n 0 * get_or b (length a - suc j) 0) (sym (zero-add j)))
     ∙ ap (λ (n : ℕ). total n (λ j. get_or a (0 + j) 0 * get_or b (length a - suc j) 0)) {x = i} {y = length a - 0} (omega arith)
+
+-- The products that are added up
+
+module _ (a b : List ℕ) (from to : ℕ) where
+  pub run_none : 0 ≡ total (from - from) (λ j. get_or a (from + j) 0 * get_or b (to - suc j) 0)
+  unfolding total
+  run_none = sym (ap (λ (n : ℕ). total n (λ j. get_or a (from + j) 0 * get_or b (to - suc j) 0)) {x = from - from} {y = 0} (omega arith))
+
+  pub run_more : (i sum x y : ℕ) → from ≤ i → sum ≡ total (i - from) (λ j. get_or a (from + j) 0 * get_or b (to - suc j) 0)
+      → x ≡ get_or a i 0 → y ≡ get_or b (to + from - suc i) 0
+      → sum + x * y ≡ total (i + 1 - from) (λ j. get_or a (from + j) 0 * get_or b (to - suc j) 0)
+  run_more i sum x y le is here there =
+      ap₂ ◌+◌ is (ap₂ ◌*◌
+      (here ∙ ap (λ (n : ℕ). get_or a n 0) {x = i} {y = from + (i - from)} (omega arith))
+      (there ∙ ap (λ (n : ℕ). get_or b n 0) {x = to + from - suc i} {y = to - suc (i - from)} (omega arith)))
+      ∙ sym (total_more (i - from) _)
+      ∙ ap (λ (n : ℕ). total n (λ j. get_or a (from + j) 0 * get_or b (to - suc j) 0)) {x = i - from + 1} {y = i + 1 - from} (omega arith)
 
 -- The products of parts of two lists
 

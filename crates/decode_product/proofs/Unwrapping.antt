@@ -5,7 +5,7 @@ use mathlib.Core.List.{List, ◌++◌}
 use Prim.Native.Nat.{ℕ, suc, ◌^◌, ◌/◌, ◌<◌, ◌≤◌}
 use native.Mathlib.Omega.{arith}
 use lib.Pow.{pow_pos}
-use lib.ListN.{length, get_or, take, drop, set, length-set}
+use lib.ListN.{length, get_or, take, drop, set, length-append, length-set}
 use lib.Seq.{take_at}
 use Rattle.field.specs.Field.{difference, product}
 use Rattle.lists.specs.Tab.{tab}
@@ -77,3 +77,6 @@ module _ (d : List ℕ) (two : TwoFactors d) (s t : List ℕ) (front : s ≡ tak
         take_at (set g 0 v) rest (length d / 2) (length-set g 0 v ∙ g_long)
         ∙ ap (set g 0) less
         ∙ unwrapped q.k few (first_factor d) (second_factor d) first_factor_long second_factor_long g (undone ∙ ap inverse_of values_are)
+
+    pub product_length : (v : ℕ) (rest : List ℕ) → length rest ≡ length d / 2 → length (set g 0 v ++ rest) ≡ length d
+    product_length v rest same = length-append (set g 0 v) rest ∙ omega (arith, length-set g 0 v, g_long, same, q.half, q.whole)

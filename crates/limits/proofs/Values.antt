@@ -1,6 +1,6 @@
 -- What the search for a value above 65536 tells: a refusal by VALUE where it found one, symbols throughout where it found none.
 -- Assumes nothing.
-use mathlib.Core.Path.{◌≡◌, refl, sym, ◌∙◌}
+use mathlib.Core.Path.{◌≡◌, refl, sym, ap, ◌∙◌}
 use mathlib.Core.List.{List, [], ◌∷◌}
 use Prim.Native.Nat.{ℕ, ◌<◌, ◌≤◌, suc-le-suc}
 use native.Mathlib.Nat.{le_of_eq, le_of_suc-le-suc, le_trans, lt_of_lt_of_le}
@@ -35,6 +35,21 @@ above_none values later is =
     (found_none (length values) (first_above values) (sym (is ∙ found_above values)))
     refl
 
+-- the same by the place of the first
+
+pub first_refused : (values : List ℕ) (later : Answer) {x : ℕ} → x ≡ first_above values → x < length values
+    → refused (Value x) ≡ refuse_above values later
+first_refused values later e h = stops_at Value (first_above values) (length values) later e h
+
+pub none_refused : (values : List ℕ) (later : Answer) {x : ℕ} → x ≡ first_above values → length values ≤ x
+    → later ≡ refuse_above values later
+none_refused values later e h = passes_all Value (first_above values) (length values) later e h refl
+
+-- the same where the result is one number
+pub above_none_value : (values : List ℕ) {x r v : ℕ} → x ≡ first_above values → length values ≤ x → r ≡ v
+    → the_result (r ∷ []) ≡ refuse_above values (the_result (v ∷ []))
+above_none_value values e h is = ap (λ (v : ℕ). the_result (v ∷ [])) is ∙ none_refused values _ e h
+
 pub all_symbols : (values : List ℕ) {x : ℕ} → x ≡ first_above values → length values ≤ x → (i : ℕ) → i < length values
     → get_or values i 0 < 65537
 unfolding first_above
@@ -46,6 +61,9 @@ all_symbols values e h i l =
 pub none_above : (values : List ℕ) → Symbols values → first_above values ≡ length values
 unfolding first_above
 none_above values small = first_none (length values) _ (λ i l. le-ltb 65536 _ (le_of_suc-le-suc (small i l)))
+
+pub two_symbols : (a b : ℕ) {x : ℕ} → x ≡ first_above (a ∷ b ∷ []) → 2 ≤ x → (a < 65537) × (b < 65537)
+two_symbols a b e h = (all_symbols (a ∷ b ∷ []) e h 0 (lit< tt), all_symbols (a ∷ b ∷ []) e h 1 (lit< tt))
 
 -- what a check lets through
 

@@ -1,4 +1,5 @@
 pub mod Putting
 pub mod Decimals
+pub mod Joining
 pub mod Reading
 pub mod Theorems

@@ -146,6 +146,9 @@ layout_refused s r x later short is bad =
     ∙ ap (λ (a : Answer). after a (served_answer s)) bad
     ∙ short_program s short
 
+pub layout_served : (s : List ℕ) → length s ≤ most_input → layout_checks s ≡ the_result [] → served_answer s ≡ program_answer s
+layout_served s short good = sym (ap (λ (a : Answer). after a (served_answer s)) good) ∙ short_program s short
+
 -- b is the input as its layout passed
 pub layout_passed : (s b : List ℕ) (r : Result ⊤ Refusal) → b ≡ s → layout_checks b ≡ the_result [] → length s ≤ most_input
     → after (told_outcome r) (the_result (length_in b ∷ [])) ≡ served_answer b
@@ -154,8 +157,7 @@ layout_passed s b r same good short served =
     ap (λ (t : List ℕ). after (told_outcome r) (the_result (length_in t ∷ []))) (sym same)
     ∙ served
     ∙ ap served_answer same
-    ∙ sym (ap (λ (a : Answer). after a (served_answer s)) (ap layout_checks (sym same) ∙ good))
-    ∙ short_program s short
+    ∙ layout_served s short (ap layout_checks (sym same) ∙ good)
 
 -- what `program_answer` is proved by
 pub ruleset programmed = (long_refused, layout_refused, layout_passed)

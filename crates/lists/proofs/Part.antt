@@ -1,11 +1,11 @@
--- A part of a list and the list with other numbers in its place: what is read there and beside it, and two parts side by side.
+-- A part of a list and the list with other numbers in its place: what is read there and beside it, a store, and two parts side by side.
 -- Assumes nothing.
 use mathlib.Core.Path.{◌≡◌, sym, ap, ap₂, ◌∙◌}
 use mathlib.Core.List.{List, ◌++◌, append_assoc}
 use Prim.Native.Nat.{ℕ, ◌+◌, ◌-◌, ◌<◌, ◌≤◌}
 use native.Mathlib.Omega.{arith}
-use lib.ListN.{length, get_or, take, drop, length-append, length-take, length-drop, get_or-append}
-use lib.Seq.{take-append-le, drop-append-le, take-take, length-take-le, take_at, drop_at, drop-drop, take-add, get_or-append-add, get_or-drop, get_or-take}
+use lib.ListN.{length, get_or, take, drop, set, length-append, length-take, length-drop, take-append-drop, get_or-append}
+use lib.Seq.{take-append-le, drop-append-le, take-take, length-take-le, take_at, drop_at, take-set-le, drop-set-add, set-append_left, drop-drop, take-add, get_or-append-add, get_or-drop, get_or-take}
 use Rattle.lists.specs.Part.{part, replaced}
 
 pub part_length : (at size : ℕ) (c : List ℕ) → at + size ≤ length c → length (part at size c) ≡ size
@@ -14,6 +14,11 @@ part_length at size c h = length-take-le size (drop at c) (omega (arith, length-
 -- two parts side by side are one
 pub part_join : (at m n : ℕ) (c : List ℕ) → part at (m + n) c ≡ part at m c ++ part (at + m) n c
 part_join at m n c = take-add m n (drop at c) ∙ ap (λ (l : List ℕ). part at m c ++ take n l) (drop-drop m at c)
+
+pub replaced_self : (at size : ℕ) (c : List ℕ) → c ≡ replaced at size c (part at size c)
+replaced_self at size c =
+    sym (take-append-drop at c)
+    ∙ ap (take at c ++◌) (sym (take-append-drop size (drop at c)) ∙ ap (part at size c ++◌) (drop-drop size at c))
 
 -- what stands before a part stays
 pub replaced_front : (m at size : ℕ) (c new : List ℕ) → m ≤ at → at ≤ length c → take m (replaced at size c new) ≡ take m c
@@ -64,11 +69,29 @@ module _ (at size : ℕ) (c : List ℕ) (h : at + size ≤ length c) where
         ∙ get_or-drop (at + size) c (i - (at + size)) 0
         ∙ ap (λ (n : ℕ). get_or c n 0) {x = at + size + (i - (at + size))} {y = i} (omega arith)
 
+    pub replaced_set : (i v : ℕ) → i < size → set (replaced at size c new) (at + i) v ≡ replaced at size c (set new i v)
+    replaced_set i v l =
+        sym (take-append-drop at (set (replaced at size c new) (at + i) v))
+        ∙ ap₂ ◌++◌
+        (take-set-le at (replaced at size c new) (at + i) v (omega arith) ∙ take_at (take at c) _ at front_length)
+        (drop-set-add at (replaced at size c new) i v
+        ∙ ap (λ (l : List ℕ). set l i v) replaced_from
+        ∙ set-append_left new _ i v (omega arith))
+
     pub replaced_twice : (again : List ℕ) → replaced at size (replaced at size c new) again ≡ replaced at size c again
     replaced_twice again =
         ap₂ (λ (front back : List ℕ). front ++ (again ++ back))
         (take_at (take at c) _ at front_length)
         (replaced_behind (at + size) (omega arith))
+
+    -- the part behind replaced too
+    pub replaced_join : (n : ℕ) (next : List ℕ)
+        → replaced (at + size) n (replaced at size c new) next ≡ replaced at (size + n) c (new ++ next)
+    replaced_join n next =
+        ap₂ (λ (front back : List ℕ). front ++ (next ++ back))
+        (ap (take (at + size)) split_end ∙ take_at (take at c ++ new) _ (at + size) end_length)
+        (replaced_behind (at + size + n) (omega arith) ∙ ap (λ (m : ℕ). drop m c) {x = at + size + n} {y = at + (size + n)} (omega arith))
+        ∙ simp append_assoc
 
 -- A part as it is lent, up to an end, and as it comes back
 

@@ -90,6 +90,12 @@ module _ (d : List ℕ) (able : Transformable d) (many : 2 ≤ length d) where
         transformable_of p.k p.few b back_length
         (λ i h. rw (back, get_or-drop (length d / 2) d i 0) (able.symbols (length d / 2 + i) (omega (arith, back_length, p.half, p.whole))))
 
+    pub front_less : length f < length d
+    front_less = omega (arith, front_length, p.whole, pow_pos p.k)
+
+    pub back_less : length b < length d
+    back_less = omega (arith, back_length, p.whole, pow_pos p.k)
+
     -- at roots that are the square of the whole's
     module _ (root r q : ℕ) (r_is : r ≡ product root root) (q_is : q ≡ product root root) (e o : List ℕ) (one : e ≡ halved (level_of (length f)) r f) (two : o ≡ halved (level_of (length b)) q b) where
       -- a half, by the level below

@@ -30,10 +30,10 @@ joining_none r e o = record { front_is = window_none 0 _ e; back_is = window_non
 
 module _ (r : ℕ) (e o front back : List ℕ) (j : ℕ) (held : Joining r e o front back j) where
   -- a pair that is not joined yet is as it was
-  joining_even : get_or front j 0 ≡ get_or e j 0
+  pub joining_even : get_or front j 0 ≡ get_or e j 0
   joining_even = ap (λ (l : List ℕ). get_or l j 0) held.front_is ∙ window_past 0 j j _ e (omega arith) (omega arith)
 
-  joining_odd : get_or back j 0 ≡ get_or o j 0
+  pub joining_odd : get_or back j 0 ≡ get_or o j 0
   joining_odd = ap (λ (l : List ℕ). get_or l j 0) held.back_is ∙ window_past 0 j j _ o (omega arith) (omega arith)
 
   -- e and o are the parts of a list d of symbols

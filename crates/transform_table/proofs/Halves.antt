@@ -3,6 +3,7 @@
 use mathlib.Core.Path.{◌≡◌, sym, ap, subst, ◌∙◌}
 use mathlib.Core.List.{List, ◌++◌}
 use Prim.Native.Nat.{ℕ, ◌*◌, ◌^◌, ◌/◌, ◌%◌, ◌≤◌}
+use native.Mathlib.Nat.{mul-le-mul_right}
 use native.Mathlib.Omega.{arith}
 use lib.ListN.{length, take, drop}
 use Rattle.field.specs.Field.{product}
@@ -20,6 +21,9 @@ use Rattle.transform_table.proofs.Table.{turns_square}
 module _ (d table : List ℕ) (step : ℕ) (tabled : Tabled d table step) (many : 2 ≤ length d) where
   abbrev p : Pair d
   p = pair_of d tabled.able many
+
+  pub step_inside : step ≤ length table
+  step_inside = let one : 1 ≤ length d / 2 = omega arith in omega (arith, tabled.turns.inside, mul-le-mul_right step one)
 
   -- a half, s, whose turns are every second one
   square : (s : List ℕ) → length s ≡ 2 ^ p.k → root_of (length s) ≡ product (root_of (length d)) (root_of (length d))

@@ -1,9 +1,12 @@
--- The sums at the inverse of a root of order N are the sums at the root, turned round; and turning round is putting in reverse what stands behind the first.
+-- The sums at the inverse of a root of order N are the sums at the root, turned round; and turning round changes places in pairs, which is putting
+-- in reverse what stands behind the first.
 -- Assumes nothing.
 use mathlib.Core.Path.{◌≡◌, refl, sym, ap, ap₂, ◌∙◌}
 use mathlib.Core.List.{List, [], ◌∷◌, ◌++◌, append-nil}
+use mathlib.Core.Logic.{◌⊎◌, inl, inr, ⊎_elim}
 use Prim.Native.Nat.{ℕ, zero, suc, ◌+◌, ◌-◌, ◌*◌, ◌^◌, ◌%◌, ◌<◌}
-use native.Mathlib.Nat.{mod-lt, mod_self, mod-eq_of_lt, pow-zero}
+use native.Mathlib.Decide.{dec_lt}
+use native.Mathlib.Nat.{eq-zero-or-pos, mod-lt, mod_self, mod-eq_of_lt, pow-zero}
 use native.Mathlib.Omega.{arith}
 use lib.ListN.{length, get_or, take, drop, drop_of_length-le}
 use lib.Seq.{take_all}
@@ -20,6 +23,7 @@ use Rattle.lists.proofs.Tab.{tab_ext, tab_get_or}
 use Rattle.poly.proofs.Values.{value-≈}
 use Rattle.transform_halving.specs.Transformable.{Transformable}
 use Rattle.transform_halving.specs.Transform.{sums, transform_of}
+use Rattle.transform_halving.proofs.Arranging.{Paired, Arranging, arranging_all}
 use Rattle.transform_halving.proofs.Round.{Opposite}
 use Rattle.transform_halving.proofs.Sums.{values, values_at, sums_values}
 use Rattle.transform_halving.proofs.Undo.{opposed, transform_values, transform_length}
@@ -36,6 +40,43 @@ mirror_above n j some h = mod-eq_of_lt (omega arith)
 mirror_lt : (n j : ℕ) → j < n → mirror n j < n
 unfolding mirror
 mirror_lt n j h = mod-lt (n - j) (omega arith)
+
+mirror_twice : (n j : ℕ) → j < n → mirror n (mirror n j) ≡ j
+mirror_twice n j h =
+    elim (eq-zero-or-pos j) [
+      | inl none ↦ ap (λ (x : ℕ). mirror n (mirror n x)) none ∙ ap (mirror n) (mirror_zero n) ∙ mirror_zero n ∙ sym none
+      | inr some ↦ ap (mirror n) (mirror_above n j some h) ∙ mirror_above n (n - j) (omega arith) (omega arith) ∙ omega arith
+    ]
+
+pub mirror_paired : (n : ℕ) → Paired n (mirror n)
+mirror_paired n = record { below = mirror_lt n; twice = mirror_twice n }
+
+-- place 0 is its own mirror, and no other's
+pub turning_none : (d : List ℕ) → Arranging (length d) (mirror (length d)) d d 1
+turning_none d = record { done = λ x h met. ap (λ (y : ℕ). get_or d y 0) (own x (first x h met)); rest = λ x h a b. refl }
+  where
+    first : (x : ℕ) → x < length d → (x < 1) ⊎ (mirror (length d) x < 1) → x ≡ 0
+    first x h met =
+        ⊎_elim
+        (λ l. omega arith)
+        (λ l. sym (mirror_twice (length d) x h) ∙ ap (mirror (length d)) {y = 0} (omega arith) ∙ mirror_zero (length d))
+        met
+
+    own : (x : ℕ) → x ≡ 0 → x ≡ mirror (length d) x
+    own x none = none ∙ sym (ap (mirror (length d)) none ∙ mirror_zero (length d))
+
+-- from half way on, the mirror of every place is met
+pub turning_all : (d list : List ℕ) (low : ℕ) → length list ≡ length d → length d < low + low → Arranging (length d) (mirror (length d)) d list low
+    → list ≡ turned_round d
+unfolding turned_round
+turning_all d list low long half a = arranging_all (mirror (length d)) d list low long a met
+  where
+    met : (x : ℕ) → x < length d → (x < low) ⊎ (mirror (length d) x < low)
+    met x h =
+        elim (dec_lt x low) [
+          | yes less ↦ inl less
+          | no above ↦ inr (omega (arith, mirror_above (length d) x (omega arith) h))
+        ]
 
 -- the first number, and those behind it in reverse
 reversed_behind : (a : ℕ) (s : List ℕ) → a ∷ reverse s ≡ turned_round (a ∷ s)

@@ -1,15 +1,19 @@
--- Each turn lies in its table, and every second turn is a turn of the halves.
+-- Each turn lies in its table, every second turn is a turn of the halves, and the turns serve what is written over the list too.
 -- Assumes nothing.
-use mathlib.Core.Path.{sym, ap, ◌∙◌}
+use mathlib.Core.Path.{◌≡◌, sym, ap, subst, ◌∙◌}
 use mathlib.Core.List.{List}
 use mathlib.Core.Logic.{inl, inr}
-use Prim.Native.Nat.{ℕ, ◌+◌, ◌*◌, ◌<◌, ◌≤◌}
+use Prim.Native.Nat.{ℕ, ◌+◌, ◌*◌, ◌/◌, ◌<◌, ◌≤◌}
 use native.Mathlib.Nat.{eq-zero-or-pos, mul-le-mul_right}
 use native.Mathlib.Omega.{arith}
 use lib.ListN.{length, get_or, get_or-eq_default}
 use Rattle.field.specs.Field.{product}
+use Rattle.field.specs.Points.{root_of}
 use Rattle.field.proofs.Ring.{power_zero, power_plus, power_product}
-use Rattle.transform_table.specs.Turns.{TurnsOf}
+use Rattle.transform_halving.specs.Order.{arranged}
+use Rattle.transform_halving.specs.Transformable.{Transformable}
+use Rattle.transform_halving.proofs.Steps.{arranged_transformable}
+use Rattle.transform_table.specs.Turns.{TurnsOf, Tabled}
 
 module _ (root count : ℕ) (table : List ℕ) (step : ℕ) (turns : TurnsOf root count table step) where
   -- the first turn is 1, so that the table is not empty
@@ -37,3 +41,12 @@ module _ (root count : ℕ) (table : List ℕ) (step : ℕ) (turns : TurnsOf roo
             ∙ power_plus root j j
             ∙ sym (power_product root root j);
       }
+
+-- other numbers in the list's place
+pub tabled_kept : (d new table : List ℕ) (step : ℕ) → Tabled d table step → length new ≡ length d → Transformable new → Tabled new table step
+tabled_kept d new table step tabled same able =
+    record { able = able; turns = subst (λ (n : ℕ). TurnsOf (root_of n) (n / 2) table step) (sym same) tabled.turns }
+
+pub arranged_tabled : (d s table : List ℕ) (step : ℕ) → Tabled d table step → length s ≡ length d → s ≡ arranged d → Tabled s table step
+arranged_tabled d s table step tabled same is =
+    tabled_kept d s table step tabled same (subst Transformable (sym is) (arranged_transformable d tabled.able))

@@ -6,8 +6,7 @@ ghost use Rattle.bundle.specs.Checks.{write_checks, read_checks};
 
 use crate::rooms::{bundle_work, write_out};
 use answers::Refusal;
-use bundle_layout::Layout;
-use bundle_layout::inner::{bad_bundle_shape, blocks};
+use bundle_layout::inner::{Layout, bad_bundle_shape, blocks};
 use limits::too_short;
 
 // length is the file's, out and work are the lengths of the output and of the working space.

@@ -8,7 +8,7 @@ ghost use Rattle.bundle.specs.Calls.{read_all_leaves};
 
 use answers::Refusal;
 use bundle_gather::start;
-use bundle_layout::Layout;
+use bundle_layout::inner::Layout;
 use bundle_read::read_blocks;
 use cells::clear;
 

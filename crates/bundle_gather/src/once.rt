@@ -7,8 +7,8 @@ ghost use Rattle.bundle_layout.specs.Fields.{k_in, n_in, held_in};
 ghost use Rattle.bundle_layout.specs.Rooms.{bundle_work};
 ghost use Rattle.bundle_gather.specs.Gathering.{marks_in, missing_in, with_shadow, with_weights, Shadows, Laid};
 
-use bundle_layout::Layout;
-use bundle_storage::words_at;
+use bundle_layout::inner::Layout;
+use bundle_storage::{known_as_bytes, words_at};
 use cells::clear;
 use decode_prepare::prepare;
 use field::size;
@@ -18,6 +18,7 @@ fn lay_shadow(bundle: Layout<'_>, size: usize, t: usize, cells: &mut [u32])
     requires { (t < held_in bundle.bytes.now) × (t < size) × (length cells.old ≡ 8 * size) }
     ensures { cells.new ≡ with_shadow bundle.entry.bytes.now size t cells.old }
 {
+    known_as_bytes(bundle.bytes);
     let entry = bundle.entry(t);
     cells[5 * size + t] = words_at(entry.offset, entry.count) as u32;
     cells[6 * size + t] = entry.offset as u32;

@@ -5,8 +5,8 @@ ghost use Rattle.field.specs.Size.{size_of};
 ghost use Rattle.bundle_layout.specs.Fields.{n_in, held_in, blocks_in};
 ghost use Rattle.bundle_gather.specs.Gathering.{cursor_held, with_symbol, Fixed, Laid, Gathered};
 
-use bundle_layout::Layout;
-use bundle_storage::{cursor_after, symbol_in};
+use bundle_layout::inner::Layout;
+use bundle_storage::{cursor_after, known_as_bytes, symbol_in};
 use cells::clear;
 use field::{product, size};
 
@@ -18,6 +18,7 @@ fn gather_one(bundle: Layout<'_>, size: usize, b: usize, t: usize, cells: &mut [
         × (get_or cells.old (6 * size + t) 0 ≡ cursor_held bundle.bytes.now b t) }
     ensures { cells.new ≡ with_symbol bundle.entry.bytes.now size b t cells.old }
 {
+    known_as_bytes(bundle.bytes);
     let words = cells[5 * size + t] as usize;
     let cursor = cells[6 * size + t] as usize;
     let place = cells[7 * size + t] as usize;

@@ -1,5 +1,5 @@
-// No entry points: the fields of a bundle and the tests of its layout, for the entry points here and in the crates above. Those that read a
-// field ask that it is there.
+// No entry points: a bundle whose layout is good, the fields of one that is not tested yet, B and SHAPE, for the entry points here and in the crates
+// above. Those that read a field or an entry ask that it is there.
 ghost use Rattle.std.specs.Prelude.{◌≡◌, ◌+◌, ◌<◌, ◌≤◌, length};
 ghost use Rattle.limits.specs.Shape.{longest};
 ghost use Rattle.bundle_layout.specs.Blocks.{blocks_of};
@@ -8,6 +8,7 @@ ghost use Rattle.bundle_layout.specs.Fields.{k_in, n_in, length_in, held_in, ent
 ghost use Rattle.bundle_layout.specs.Shadows.{header_size, entry_size};
 
 pub use crate::checks::bad_bundle_shape;
+pub use crate::layout::Layout;
 use bundle_storage::{four_at, two_at};
 
 // B.

@@ -1,8 +1,8 @@
-// A bundle whose layout is good: what the functions that read a bundle are given, once the tests have passed it.
+// A bundle whose layout is good: what the functions that read a bundle are given, once the tests have passed it. No entry points: the crates above
+// have the type from `inner`.
 ghost use Rattle.std.specs.Prelude.{◌≡◌, [], ◌<◌, ◌≤◌, IfOk};
 ghost use Rattle.answers.specs.Refusals.{the_result, told};
 ghost use Rattle.bundle_storage.specs.Blocks.{most_blocks};
-ghost use Rattle.bundle_storage.specs.Bytes.{Bytes};
 ghost use Rattle.bundle_layout.specs.Fields.{k_in, n_in, length_in, held_in, blocks_in, position_in, count_in, offset_in};
 ghost use Rattle.bundle_layout.specs.Layout.{layout_checks};
 
@@ -15,7 +15,6 @@ use answers::Refusal;
 pub struct Layout<'a> {
     pub bytes: &'a [u8],
     pub ghost good: { layout_checks bytes.now ≡ the_result [] },
-    pub ghost small: { Bytes bytes.now },
 }
 
 impl<'a> Layout<'a> {

@@ -7,4 +7,3 @@ pub mod inner;
 mod layout;
 
 pub use facts::{Entry, Facts, entry_of, facts_of};
-pub use layout::Layout;

@@ -11,7 +11,8 @@ ghost use Rattle.bundle_read.specs.Reading.{judged, block_answer, blocks_answer,
 use crate::bytes::{bad_bytes, bad_word, lay_bytes};
 use answers::Refusal;
 use bundle_gather::gather;
-use bundle_layout::Layout;
+use bundle_layout::inner::Layout;
+use bundle_storage::known_as_bytes;
 use decode_divide::divide;
 use field::size;
 
@@ -58,6 +59,7 @@ fn read_block(
         → BlocksLaid bundle.entry.bytes.now b (length file.old) file.old
         → BlocksLaid bundle.entry.bytes.now (suc b) (length file.old) file.new }
 {
+    known_as_bytes(bundle.bytes);
     let k = bundle.k();
     let n = bundle.n();
     let end = 4 * size(n);

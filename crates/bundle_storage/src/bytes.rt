@@ -1,6 +1,12 @@
-// Numbers in bytes, most significant byte first. No entry points: each asks that the bytes lie inside.
+// Numbers in bytes, most significant byte first. No entry points: each that reads or writes asks that the bytes lie inside.
 ghost use Rattle.std.specs.Prelude.{◌≡◌, ◌+◌, ◌<◌, length};
-ghost use Rattle.bundle_storage.specs.Bytes.{two_at, four_at, two, four, put};
+ghost use Rattle.bundle_storage.specs.Bytes.{Bytes, two_at, four_at, two, four, put};
+
+// That the numbers of a slice are bytes, for one who has the slice in a struct: of a slice that is lent by itself the check knows it, of one that
+// is read from a field it does not. Nothing is done when it runs.
+pub fn known_as_bytes(bytes: &[u8])
+    ensures { Bytes bytes.now }
+{}
 
 #[tactic(auto, unfolding(crate::specs::Bytes::two_at))]
 pub fn two_at(bytes: &[u8], at: usize) -> usize

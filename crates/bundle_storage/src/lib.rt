@@ -6,4 +6,4 @@ mod body;
 mod bytes;
 
 pub use body::{body_good, body_size, cursor_after, store, symbol_in, words_at};
-pub use bytes::{four_at, put_four, put_two, two_at};
+pub use bytes::{four_at, known_as_bytes, put_four, put_two, two_at};

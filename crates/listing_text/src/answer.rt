@@ -10,7 +10,7 @@ ghost use Rattle.listing_text.specs.Answers.{most_n, served_answer, program_answ
 use answers::Refusal;
 use bundle::inner::bundle_work;
 use bundle_gather::start;
-use bundle_layout::Layout;
+use bundle_layout::inner::Layout;
 use bundle_read::read_blocks;
 
 const MOST_INPUT: usize = 24576;

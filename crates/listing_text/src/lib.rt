@@ -14,7 +14,7 @@ ghost use Rattle.listing_text.specs.Listing.{alone};
 use crate::answer::program_answer;
 use crate::table::put_listing;
 use answers::Refusal;
-use bundle_layout::Layout;
+use bundle_layout::inner::Layout;
 use cells::clear;
 use listing_lines::{put_ok, put_refused};
 

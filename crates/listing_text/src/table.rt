@@ -4,7 +4,7 @@ ghost use Rattle.bundle_layout.specs.Fields.{held_in};
 ghost use Rattle.listing_lines.specs.Puts.{Puts};
 ghost use Rattle.listing_text.specs.Listing.{entry_lines, listing};
 
-use bundle_layout::Layout;
+use bundle_layout::inner::Layout;
 use listing_lines::{put_entry_line, put_header_line};
 
 // A line takes at most 63 bytes: three numbers of 20 digits, two blanks and the line feed.

@@ -6,8 +6,7 @@ ghost use Rattle.room_calls.specs.Rooms.{told_room, transform_room_answer, encod
 use crate::space::Space;
 use answers::Refusal;
 use bundle::inner::{bundle_work, write_out};
-use bundle_layout::Layout;
-use bundle_layout::inner::{bad_bundle_shape, blocks};
+use bundle_layout::inner::{Layout, bad_bundle_shape, blocks};
 use limits::bad_shape;
 use transform::inner::bad_length;
 

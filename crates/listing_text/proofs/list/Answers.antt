@@ -2,7 +2,6 @@
 -- Assumes nothing.
 use Prim.Native.Nat.{zero-le}
 use native.Mathlib.Omega.{arith}
-use borrow.Author.Rules.{rules}
 use Rattle.listing_lines.proofs.Putting.{puts_more}
 use Rattle.listing_text.specs.Calls.{text_room}
 use Rattle.listing_text.proofs.Answering.{whole_good, whole_leaves, partly_good, partly_leaves, alone_leaves}
@@ -10,7 +9,7 @@ use Rattle.listing_text.proofs.list.Goals as goal
 
 pub invariant_of-put_listing : goal.invariant_of-put_listing
 unfolding text_room
-invariant_of-put_listing c = record { good = (whole_good c.args.input.now c.args.text.now c.args.work.now _ _ c.program_answer-answer.auto.work c.clear.ensures _ c.program_answer-answer.ensures _ c.in-Ok.is).0; small = search rules }
+invariant_of-put_listing c = record { good = (whole_good c.args.input.now c.args.text.now c.args.work.now _ _ c.program_answer-answer.auto.work c.clear.ensures _ c.program_answer-answer.ensures _ c.in-Ok.is).0 }
 
 pub put_listing-end-requires : goal.put_listing-end-requires
 unfolding text_room
@@ -38,7 +37,7 @@ returns-then-alone c = alone_leaves c.args.input.now c.args.text.now c.args.work
 
 pub invariant_of-put_listing-in-Err : goal.invariant_of-put_listing-in-Err
 unfolding text_room
-invariant_of-put_listing-in-Err c = record { good = (partly_good c.args.input.now c.args.text.now c.args.work.now _ _ c.program_answer-answer.auto.work c.clear.ensures _ c.program_answer-answer.ensures _ _ c.in-Err.is c.alone.ensures c.if-alone.false).0; small = search rules }
+invariant_of-put_listing-in-Err c = record { good = (partly_good c.args.input.now c.args.text.now c.args.work.now _ _ c.program_answer-answer.auto.work c.clear.ensures _ c.program_answer-answer.ensures _ _ c.in-Err.is c.alone.ensures c.if-alone.false).0 }
 
 pub put_listing-end-requires-in-Err : goal.put_listing-end-requires-in-Err
 unfolding text_room

@@ -19,7 +19,7 @@ overflow_cast-cells c =
     omega (
       arith,
       words_laid_lem bundle.bytes.now c.args.t _ _ _ c.entry-entry.ensures.offset.0 c.entry-entry.ensures.count.0 c.words_at.ensures,
-      words_small bundle.bytes.now bundle.good c.args.t c.requires.0 bundle.small,
+      words_small bundle.bytes.now bundle.good c.args.t c.requires.0 c.known_as_bytes.ensures,
     )
 
 pub returns : goal.returns

@@ -38,14 +38,14 @@ placed c =
 next : (c : After-cursor_after) → c.cursor_after.result ≡ cursor_held c.args.bundle.bytes.now (suc c.args.b) c.args.t
 next c =
     moved_on c.args.bundle.bytes.now c.args.b c.args.t _
-    (c.cursor_after.ensures _ _ _ c.args.b _ c.args.bundle.bytes.now c.args.bundle.small (placed c) (c.symbol_in-symbol.ensures _ _ _ (placed c)))
+    (c.cursor_after.ensures _ _ _ c.args.b _ c.args.bundle.bytes.now c.known_as_bytes.ensures (placed c) (c.symbol_in-symbol.ensures _ _ _ (placed c)))
 
 pub overflow_cast-cells : goal.overflow_cast-cells
 overflow_cast-cells c =
     omega (
       arith,
       next c,
-      cursor_small c.args.bundle.bytes.now c.args.bundle.good c.args.t c.requires.held.1 c.args.bundle.small (suc c.args.b),
+      cursor_small c.args.bundle.bytes.now c.args.bundle.good c.args.t c.requires.held.1 c.known_as_bytes.ensures (suc c.args.b),
     )
 
 pub returns : goal.returns

@@ -11,7 +11,7 @@ pub blocks-requires : goal.blocks-requires
 unfolding longest longest_file
 blocks-requires c =
     let told = limits _ _ _ c.args.self.shaped in
-    (told.some, omega arith, told.file)
+    (omega arith, omega arith, told.file)
 
 pub returns : goal.returns
 returns c =

@@ -30,17 +30,6 @@ impl<'a> Turns<'a> {
     {
         self.table[j * self.step]
     }
-
-    // Every second turn is a turn of the halves.
-    fn halves(self) -> Turns<'a>
-        requires { self.step ≤ length self.table.now }
-        ensures { (result.table.now ≡ self.entry.table.now) × (result.step ≡ 2 * self.entry.step) }
-    {
-        Turns {
-            table: self.table,
-            step: 2 * self.step,
-        }
-    }
 }
 
 pub fn lay_powers(root: u32, cells: &mut [u32])
@@ -69,20 +58,21 @@ fn join_by(list: &mut [u32], turns: Turns)
     }
 }
 
-// "down to size 1, which changes nothing"
-fn halve_by(list: &mut [u32], turns: Turns)
-    requires { Tabled list.old turns.table.now turns.step }
+// "down to size 1, which changes nothing". Every second turn is a turn of the halves. Table and step are handed on by themselves, since with
+// `Turns` a frame would be twice as large, and there are thirteen at N = 4096.
+fn halve_by(list: &mut [u32], table: &[u32], step: usize)
+    requires { Tabled list.old table.now step }
     ensures { list.new ≡ halved (level_of (length list.old)) (root_of (length list.old)) list.old }
 {
     if list.len() < 2 {
         return;
     }
     let half = list.len() / 2;
-    let halves = turns.halves();
+    let wider = 2 * step;
     let (front, back) = list.split_at_mut(half);
-    halve_by(front, halves);
-    halve_by(back, halves);
-    join_by(list, turns);
+    halve_by(front, table, wider);
+    halve_by(back, table, wider);
+    join_by(list, Turns { table, step });
 }
 
 pub fn transform_by(list: &mut [u32], turns: Turns)
@@ -90,7 +80,7 @@ pub fn transform_by(list: &mut [u32], turns: Turns)
     ensures { list.new ≡ transform_of list.old }
 {
     arrange(list);
-    halve_by(list, turns);
+    halve_by(list, turns.table, turns.step);
 }
 
 fn turn_round(list: &mut [u32])

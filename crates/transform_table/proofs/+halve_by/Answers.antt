@@ -1,6 +1,6 @@
 -- `transform_table::halve_by` meets its contract, by induction on the length: each half is shorter, and what the two calls leave is joined.
 -- Assumes nothing.
-use mathlib.Core.Path.{◌∙◌}
+use mathlib.Core.Path.{refl, ◌∙◌}
 use native.Mathlib.Omega.{arith}
 use Rattle.transform_halving.proofs.Halves.{single_halved}
 use Rattle.transform_table.proofs.Halves.{front_tabled, back_tabled, both_tabled, all_halved}
@@ -12,12 +12,12 @@ returns-then-list-lt2 t c = single_halved _ _ c.requires.able c.if-list-lt2.true
 pub halve_by-requires : goal.halve_by-requires
 halve_by-requires t c =
     let s = c.split_at_mut-front.ensures in
-    (omega arith, front_tabled _ _ _ c.requires c.if-list-lt2.false _ _ s.front s.back _ _ c.halves-halves.ensures)
+    (omega arith, front_tabled _ _ _ c.requires c.if-list-lt2.false _ _ s.front s.back _ _ (refl, refl))
 
 pub halve_by-requires-2 : goal.halve_by-requires-2
 halve_by-requires-2 t c =
     let s = c.split_at_mut-front.ensures in
-    (omega arith, back_tabled _ _ _ c.requires c.if-list-lt2.false _ _ s.front s.back _ _ c.halves-halves.ensures)
+    (omega arith, back_tabled _ _ _ c.requires c.if-list-lt2.false _ _ s.front s.back _ _ (refl, refl))
 
 pub join_by-requires : goal.join_by-requires
 join_by-requires t c =

@@ -20,6 +20,11 @@ module _ {T : Type 0} (v : T) where
   fill_more n d h =
       subst (λ (m : ℕ). set (replicate n v ++ drop n d) n v ≡ replicate m v ++ drop m d) (sym (add-one n)) (stored n d h)
 
+  -- the same of a store at a place that is n, into what the loop has left
+  pub fill_at : (i n : ℕ) (w : T) (s d : List T) → i ≡ n → w ≡ v → s ≡ replicate n v ++ drop n d → n < length d
+      → set s i w ≡ replicate (n + 1) v ++ drop (n + 1) d
+  fill_at i n w s d at is left h = rw (at, is, left) (fill_more n d h)
+
   pub filled_whole : (n : ℕ) (d : List T) → n ≤ length d → length d ≤ n → replicate n v ++ drop n d ≡ replicate (length d) v
   filled_whole n d h l =
       rw (drop_of_length-le d l) (append-nil (replicate n v) ∙ ap (λ (m : ℕ). replicate m v) {x = n} {y = length d} (omega arith))

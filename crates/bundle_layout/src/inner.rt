@@ -1,5 +1,5 @@
 // No entry points: a bundle whose layout is good, the fields of one that is not tested yet, B and SHAPE, for the entry points here and in the crates
-// above. Those that read a field or an entry ask that it is there.
+// above. Those that read bytes which are not tested yet, and `Layout::entry`, ask that what they read is there.
 ghost use Rattle.std.specs.Prelude.{◌≡◌, ◌+◌, ◌<◌, ◌≤◌, length};
 ghost use Rattle.limits.specs.Shape.{longest};
 ghost use Rattle.bundle_layout.specs.Blocks.{blocks_of};
